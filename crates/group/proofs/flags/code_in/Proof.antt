@@ -1,0 +1,28 @@
+-- `code_in` meets its contract: what the lent table holds at a flag. Assumes nothing.
+use borrow.Author.Needs.{needs}
+use mathlib.Core.Path.{_≡_, ap, _∙_, subst, sym}
+use mathlib.Core.List.{List, []}
+use Prim.Native.Nat.{ℕ, _/_, _%_, _<_}
+use lib.ListN.{getD}
+use Rattle.group.specs.Flags.{meaningOf}
+use Rattle.group.specs.Coded.{codeOf, flagTable, Below}
+use Rattle.group.proofs.FlagLaws.{code-in-table, code-small}
+use Rattle.group.proofs.flags.code_in.Statement.{statement}
+use Rattle.group.proofs.flags.code_in.Tie as tie
+
+found : (table : List (List ℕ)) (flag : ℕ) → table ≡ flagTable → flag < 256
+    → Below 16 (codeOf (meaningOf flag)) (getD (getD table (flag / 16) []) (flag % 16) 0)
+found table flag e h =
+    let r : getD (getD table (flag / 16) []) (flag % 16) 0 ≡ codeOf (meaningOf flag) = rw e (code-in-table flag h) in
+    record { is = r; small = rw r (code-small (meaningOf flag)) }
+
+pub code-in-spec : {M : Type 1} → statement M
+code-in-spec =
+    tie.close
+    (tie.spec
+    (λ c. search needs)
+    (λ c. search needs)
+    (λ c. search needs)
+    (λ c. search needs)
+    (λ c. search needs)
+    (λ c. found _ (c .before .args .flag) (c .before .pre) (search needs)))

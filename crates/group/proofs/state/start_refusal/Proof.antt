@@ -1,0 +1,17 @@
+-- `start_refusal` meets its contract: the tests of the definition, in its order. Assumes nothing.
+use borrow.Author.Needs.{needs}
+use Rattle.group.specs.State.{startRefusal}
+use Rattle.group.proofs.Tests.{fails, holds}
+use Rattle.group.proofs.state.start_refusal.Statement.{statement}
+use Rattle.group.proofs.state.start_refusal.Tie as tie
+
+pub start-refusal-spec : {M : Type 1} → statement M
+unfolding startRefusal
+start-refusal-spec =
+    tie.close
+    (tie.spec
+    (λ c κs. search needs)
+    (λ c. rw (fails (c .before .size-kept .ensures) (c .if1 .taken)))
+    (λ c κs. search needs)
+    (λ c. rw (holds (c .before .before .before .size-kept .ensures) (c .before .before .if1 .left), fails (c .before .number-kept .ensures) (c .if2 .taken)))
+    (λ c. rw (holds (c .before .before .before .size-kept .ensures) (c .before .before .if1 .left), holds (c .before .number-kept .ensures) (c .if2 .left))))

@@ -1,0 +1,79 @@
+// The rules that a reader's and a writer's state share, and what a start refuses.
+ghost use mathlib.Core.Path.{_≡_};
+ghost use Rattle.group.specs.Sizes.{between, sizeKept, numberKept, entriesKept};
+ghost use Rattle.group.specs.State.{nextKept, sumKept, runSound, startRefusal};
+use crate::Group;
+use crate::Phase;
+
+fn is_between(low: u32, n: u32, high: u32) -> bool
+    ensures { λ r. ⌜ r ≡ between low n high ⌝ }
+{
+    if n < low {
+        return false;
+    }
+    n <= high
+}
+
+fn size_kept(size: u32) -> bool
+    ensures { λ r. ⌜ r ≡ sizeKept size ⌝ }
+{
+    is_between(Group::LEAST_SIZE, size, Group::STANDARD_SIZE)
+}
+
+fn number_kept(number: u32) -> bool
+    ensures { λ r. ⌜ r ≡ numberKept number ⌝ }
+{
+    is_between(1, number, Group::LAST_NUMBER)
+}
+
+fn next_kept(next: u32) -> bool
+    ensures { λ r. ⌜ r ≡ nextKept next ⌝ }
+{
+    is_between(1, next, Group::LAST_NUMBER + 1)
+}
+
+fn sum_kept(phase: Phase, sum: u32) -> bool
+    ensures { λ r. ⌜ r ≡ sumKept phase sum ⌝ }
+{
+    match phase {
+        Phase::Free => sum == 0,
+        Phase::Inside => is_between(1, sum, Group::LONGEST_RECORD - 1),
+        Phase::Owed => is_between(2, sum, Group::LONGEST_RECORD),
+    }
+}
+
+// Whether size, next number, phase and sum of a state are sound.
+pub fn run_sound(size: u32, next: u32, phase: Phase, sum: u32) -> bool
+    ensures { λ r. ⌜ r ≡ runSound size next phase sum ⌝ }
+{
+    if !size_kept(size) {
+        return false;
+    }
+    if !next_kept(next) {
+        return false;
+    }
+    sum_kept(phase, sum)
+}
+
+// The number of a start's refusal, 0 if it is accepted.
+pub fn start_refusal(size: u32, first: u32) -> u32
+    ensures { λ r. ⌜ r ≡ startRefusal size first ⌝ }
+{
+    if !size_kept(size) {
+        return 2;
+    }
+    if !number_kept(first) {
+        return 3;
+    }
+    0
+}
+
+// Whether a group of this size has room for so many entries. The sum is taken in 64 bits: any count may come in.
+pub fn entries_kept(size: u32, n: u32) -> bool
+    ensures { λ r. ⌜ r ≡ entriesKept size n ⌝ }
+{
+    if n < 1 {
+        return false;
+    }
+    (Group::INFORMATION_LENGTH as u64) + (Group::ENTRY_LENGTH as u64) * (n as u64) <= size as u64
+}
