@@ -15,7 +15,7 @@ use Rattle.group.specs.declared.Kind.the-variants.{Total, Separator, Mid
 use Rattle.group.specs.declared.Meaning.{Meaning}
 use Rattle.group.specs.declared.Meaning.the-variants.{Known, Unknown}
 use Rattle.group.specs.Flags.{kinds, kindNumber, flagOf, meaningAmong, meaningOf, b4Of, withB4}
-use Rattle.group.specs.Coded.{codeOf, meaningBy, meaningOfCode, listed, flagTable}
+use Rattle.group.specs.Coded.{codeOf, meaningBy, meaningOfCode, listed, flagTable, Below}
 use Rattle.group.proofs.Computed.{below, listed-at}
 
 -- What holds of each kind with b4 clear and with b4 set, so that a law of the fourteen flags is one computation.
@@ -128,6 +128,17 @@ unfolding meaningOfCode
 known-of-code m k e =
     let w = eqb (codeOf m % 2) 1 in
     sym (by-number k w) ∙ ap (λ (n : ℕ). meaningBy n w) e ∙ meaning-of-code m
+
+-- What a flag means, by the kind that its code stands for and its bit b4.
+pub meaning-by-code : (flag code : ℕ) (k : Kind) (w : Bool) → Below 16 (codeOf (meaningOf flag)) code → kindNumber k ≡ code / 2 → w ≡ b4Of flag
+    → meaningOf flag ≡ Known k w
+meaning-by-code flag code k w b e f =
+    let m = known-of-code (meaningOf flag) k (e ∙ ap (λ (n : ℕ). n / 2) (b .is)) in
+    let bit = b4-of-meaning flag k (eqb (codeOf (meaningOf flag) % 2) 1) (sym m) in
+    sym m ∙ ap (Known k) (sym bit ∙ sym f)
+
+pub meaning-unknown : (flag code : ℕ) → Below 16 (codeOf (meaningOf flag)) code → code < 2 → meaningOf flag ≡ Unknown
+meaning-unknown flag code b h = code-unknown (meaningOf flag) (rw (b .is) at h)
 
 -- The table has the code of what each flag means.
 pub code-in-table : (flag : ℕ) → flag < 256 → getD (getD flagTable (flag / 16) []) (flag % 16) 0 ≡ codeOf (meaningOf flag)
