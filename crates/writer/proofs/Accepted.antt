@@ -3,24 +3,24 @@
 use mathlib.Core.Path.{_≡_, refl, ap}
 use mathlib.Core.Bool.{Bool, true, false, not, _&&_}
 use mathlib.Core.List.{List}
-use Prim.Native.Nat.{ℕ, _+_, _*_, _≤_, _<_}
+use Prim.Native.Nat.{ℕ, _+_, _≤_}
 use native.Mathlib.Omega.{arith}
 use lib.ListN.{length}
 use lib.Dec.{eqb}
 use borrow.Author.Tests.{leb-true, eqb-true, eqb-false, not-false, not-true}
-use Rattle.group.specs.Sizes.{informationLength, entryLength, longestRecord, lastNumber}
+use Rattle.group.specs.Sizes.{longestRecord, lastNumber}
 use Rattle.group.proofs.Tests.{within, passed}
 use Rattle.group.specs.declared.Phase.the-variants.{Inside}
 use Rattle.writer.specs.declared.Writer.{Writer}
 use Rattle.writer.specs.State.{isFree, isInside, isOwed, offerKept, endRemainsKept, recordRefusal, separatorRefusal, endRefusal}
-use Rattle.writer.specs.Bounds.{Roomy, Grown, Ready, Opened}
+use Rattle.writer.specs.Bounds.{Roomy, Grown, Ready, Opened, span}
 use Rattle.writer.proofs.SoundLaws.{Sound, sound, chosen}
 
 -- One entry more has its place in a sound state, whatever its phase.
-pub fits : (s : Writer) → Sound s → s .filled + informationLength + entryLength * (s .entries + 1) ≤ s .size
+pub fits : (s : Writer) → Sound s → span (s .filled) (s .entries + 1) ≤ s .size
 fits s t = by (isFree (s .phase)) refl
   where
-    by : (b : Bool) → isFree (s .phase) ≡ b → s .filled + informationLength + entryLength * (s .entries + 1) ≤ s .size
+    by : (b : Bool) → isFree (s .phase) ≡ b → span (s .filled) (s .entries + 1) ≤ s .size
     by true h = t .room h
     by false h = omega (arith, t .empty h, t .run)
 

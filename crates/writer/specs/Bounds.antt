@@ -10,11 +10,15 @@ use Rattle.writer.specs.declared.Writer.{Writer}
 use Rattle.writer.specs.declared.Fit.{Fit}
 use Rattle.writer.specs.declared.Fit.the-variants as fit
 
+-- What d data bytes, e entries and the information table take of a group.
+abbrev pub span : ℕ → ℕ → ℕ
+span d e = d + informationLength + entryLength * e
+
 -- One entry more has its place in a group of the state's own length.
 pub record Roomy (s : Writer) (g : List ℕ) : Type 0 where
   pub high : s .size ≤ standardSize
   pub long : length g ≡ s .size
-  pub fits : s .filled + informationLength + entryLength * (s .entries + 1) ≤ s .size
+  pub fits : span (s .filled) (s .entries + 1) ≤ s .size
 
 -- r has the numbers of w, with d bytes and e entries more.
 pub record Grown (r w : Writer) (d e : ℕ) : Type 0 where
@@ -40,6 +44,6 @@ pub record Opened (s : Writer) (n : ℕ) : Type 0 where
 
 -- What a fit says of the state's numbers.
 abbrev pub Fitted : Fit → ℕ → Writer → Type 0
-Fitted fit.Entire n s = s .filled + n + informationLength + entryLength * (s .entries + 2) ≤ s .size
-Fitted (fit.Start k) n s = (k < n) × (s .filled + k + informationLength + entryLength * (s .entries + 2) ≡ s .size)
-Fitted fit.Close n s = Unit {0}
+Fitted fit.Entire n s = span (s .filled + n) (s .entries + 2) ≤ s .size
+Fitted (fit.Start r) n s = (1 ≤ r) × ((r < n) × (span (s .filled + r) (s .entries + 2) ≡ s .size))
+Fitted fit.Close n s = s .size ≤ span (s .filled) (s .entries + 2)

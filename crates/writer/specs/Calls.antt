@@ -106,6 +106,22 @@ endAccepted warn w =
 unfoldable pub endCall : Bool → Desk → Done
 endCall warn w = orRefused (endRefusal (w .state) (length (w .group))) w (endAccepted warn w)
 
+-- Any call that is given a state, the number of its refusal, and what it answers and leaves.
+pub data Call : Type 0 where
+  aRecord : List ℕ → Bool → Call
+  aSeparator : ℕ → Bool → Call
+  anEnd : Bool → Call
+
+unfoldable pub refusalOf : Call → Desk → ℕ
+refusalOf (aRecord bytes warn) w = recordRefusal (w .state) (length (w .group)) (length bytes)
+refusalOf (aSeparator value warn) w = separatorRefusal (w .state) (length (w .group)) value
+refusalOf (anEnd warn) w = endRefusal (w .state) (length (w .group))
+
+unfoldable pub call : Call → Desk → Done
+call (aRecord bytes warn) w = recordCall bytes warn w
+call (aSeparator value warn) w = separatorCall value warn w
+call (anEnd warn) w = endCall warn w
+
 -- The six numbers of C's answer slice: refusal, place, outcome, group number, entry count, bytes taken.
 unfoldable pub told : WriteAnswer → List ℕ
 told (Finished s) = 0 ∷ 0 ∷ 0 ∷ 0 ∷ 0 ∷ 0 ∷ []

@@ -1,12 +1,12 @@
 // What is laid in a group: entries, data, the close. Each step takes the state by value and the group that it is lent.
 ghost use mathlib.Core.Path.{_≡_};
-ghost use Prim.Native.Nat.{_+_, _*_, _≤_};
+ghost use Prim.Native.Nat.{_+_, _≤_};
 ghost use lib.ListN.{length};
 ghost use Rattle.group.specs.declared.Phase.the-variants as phase;
-ghost use Rattle.group.specs.Sizes.{informationLength, entryLength, lastNumber};
+ghost use Rattle.group.specs.Sizes.{lastNumber};
 ghost use Rattle.writer.specs.Laying.{desk, layEntry, layPart, movedState, warnState, ready};
 ghost use Rattle.writer.specs.Calls.{done, closed};
-ghost use Rattle.writer.specs.Bounds.{Roomy, Grown, Ready};
+ghost use Rattle.writer.specs.Bounds.{Roomy, Grown, Ready, span};
 use crate::WriteAnswer;
 use crate::Writer;
 use crate::room;
@@ -34,7 +34,7 @@ pub(crate) fn lay_entry(w: Writer, group: &mut [u8], kind: Kind, count: u32) -> 
 // Data after the data that stands, and its entry.
 pub(crate) fn lay_part(w: Writer, group: &mut [u8], kind: Kind, data: &[u8]) -> Writer
     requires { ⌜ Roomy w (now group) ⌝ }
-    requires { ⌜ w .filled + length (now «data») + informationLength + entryLength * (w .entries + 1) ≤ w .size ⌝ }
+    requires { ⌜ span (w .filled + length (now «data»)) (w .entries + 1) ≤ w .size ⌝ }
     ensures { λ r. ⌜ desk r (now (group .exit)) ≡ layPart kind (now («data» .entry)) (desk w (now (group .entry))) ⌝ }
     ensures { λ r. ⌜ Grown r w (length (now («data» .entry))) 1 ⌝ }
 {

@@ -3,7 +3,7 @@ ghost use mathlib.Core.Path.{_≡_};
 ghost use Prim.Native.Nat.{_+_, _*_, _≤_};
 ghost use Rattle.group.specs.Sizes.{informationLength, entryLength, entryOffset};
 ghost use Rattle.writer.specs.Room.{room, fitOf};
-ghost use Rattle.writer.specs.Bounds.{Fitted};
+ghost use Rattle.writer.specs.Bounds.{span};
 use crate::Fit;
 use crate::Writer;
 use group::Group;
@@ -18,7 +18,7 @@ pub(crate) fn entry_offset(size: u32, k: u32) -> u32
 
 // The room: a signed number from -4 on.
 pub(crate) fn room(w: Writer) -> i64
-    requires { ⌜ w .filled + informationLength + entryLength * (w .entries + 1) ≤ w .size ⌝ }
+    requires { ⌜ span (w .filled) (w .entries + 1) ≤ w .size ⌝ }
     ensures { λ r. ⌜ r ≡ room w ⌝ }
 {
     let open = entry_offset(w.size, w.entries + 1) - w.filled;
@@ -27,9 +27,8 @@ pub(crate) fn room(w: Writer) -> i64
 
 // How a record of n bytes goes into the room.
 pub(crate) fn fit(w: Writer, n: u32) -> Fit
-    requires { ⌜ w .filled + informationLength + entryLength * (w .entries + 1) ≤ w .size ⌝ }
+    requires { ⌜ span (w .filled) (w .entries + 1) ≤ w .size ⌝ }
     ensures { λ r. ⌜ r ≡ fitOf n (room w) ⌝ }
-    ensures { λ r. ⌜ Fitted r n w ⌝ }
 {
     let r = room(w);
     if (n as i64) <= r {
