@@ -69,8 +69,9 @@ pub(crate) fn close(w: Writer, group: &mut [u8], taken: u32) -> WriteAnswer
     ensures { λ r. ⌜ done r (now (group .exit)) ≡ closed taken (desk w (now (group .entry))) ⌝ }
 {
     let v = lay_entry(w, group, Kind::Skip, w.size - w.filled);
-    let gap = room::entry_offset(v.size, v.entries);
-    bytes::put_zeros(group, v.filled as usize, gap as usize);
+    let from = v.filled as usize;
+    let to = room::entry_offset(v.size, v.entries) as usize;
+    bytes::put_zeros(group, from, to);
     let mut state = v;
     state.next = v.next + 1;
     state.filled = 0;

@@ -3,10 +3,11 @@ use borrow.Author.Needs.{needs}
 use native.Mathlib.Omega.{arith}
 use mathlib.Core.Path.{ap, _∙_}
 use borrow.Author.Tests.{le-leb, lt-leb}
+use Rattle.writer.specs.Room.{lastWithTotal}
 use Rattle.writer.specs.Laying.{layEntry}
 use Rattle.writer.specs.Calls.{finished, closed, last}
 use Rattle.writer.proofs.Desks.{move-on}
-use Prim.Native.Nat.{_+_}
+use Prim.Native.Nat.{_+_, _≤_, _<_}
 use lib.ListN.{length}
 use Rattle.group.specs.declared.Kind.the-variants.{Total}
 use Rattle.group.specs.declared.Phase.the-variants.{Free, Owed}
@@ -18,7 +19,8 @@ unfolding last finished
 total c =
     let a = c .before .before .before .before .before .before .before .before .before .before .before .before .before .before .args in
     let t = c .before .before .before .lay-entry in
-    rw (← c .before .before .before .before .before .before .entry-offset .ensures, le-leb _ _ (c .before .before .before .before .before .if1 .taken))
+    let fits : length (a .«data» .now) ≤ lastWithTotal (a .w) = omega (arith, c .before .before .before .before .before .before .entry-offset .ensures) in
+    rw (le-leb _ _ fits)
     (move-on finished Free 0 0 (t .result) (t .last .1 .0) (c .moved .ensures .0)
     (t .ensures .0 ∙ ap (layEntry Total (a .w .sum + length (a .«data» .now))) (c .before .before .before .before .before .before .before .before .before .lay-part .ensures .0)))
 
@@ -33,7 +35,8 @@ owed c =
     let a = c .before .before .before .before .before .before .before .before .before .before .before .before .before .before .args in
     let v = c .before .before .before .before .before .before .before .before .before .lay-part in
     let n = length (a .«data» .now) in
-    rw (← c .before .before .before .before .before .before .entry-offset .ensures, lt-leb _ _ (c .before .before .before .before .before .if1 .left))
+    let lacks : lastWithTotal (a .w) < n = omega (arith, c .before .before .before .before .before .before .entry-offset .ensures) in
+    rw (lt-leb _ _ lacks)
     (c .before .before .close .ensures
     ∙ move-on (closed n) Owed (a .w .sum + n) 0 (v .result) (v .last .1 .0) (c .before .before .before .before .moved2 .ensures .0) (v .ensures .0))
 

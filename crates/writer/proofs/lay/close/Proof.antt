@@ -9,7 +9,7 @@ returns : tie.Need-returns
 unfolding zeroGap laySkip
 returns c =
     let a = c .before .before .before .before .before .before .before .before .before .before .before .before .before .args in
-    rw (c .before .before .before .put-zeros .ensures, c .before .before .before .before .before .before .entry-offset .ensures) (close-laid (a .taken) (desk (a .w) (a .group .now)) (c .before .before .before .before .before .before .before .before .before .lay-entry .ensures .0))
+    rw (c .before .before .before .put-zeros .ensures, c .before .before .before .before .before .entry-offset .ensures) (close-laid (a .taken) (desk (a .w) (a .group .now)) (c .before .before .before .before .before .before .before .before .before .lay-entry .ensures .0))
 
 pub close-spec : {M : Type 1} → statement M
 close-spec =
@@ -17,8 +17,8 @@ close-spec =
     (tie.spec
     (λ c. search needs)
     (λ c κs. search needs)
-    (λ c κs. search needs)
     (λ c. search needs)
+    (λ c κs. search needs)
     (λ c. search needs)
     (λ c κs. search needs)
     (λ c. search needs)

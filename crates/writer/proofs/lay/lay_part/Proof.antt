@@ -15,4 +15,4 @@ lay-part-spec =
     (λ c. search needs)
     (λ c κs. search needs)
     (λ c. search needs)
-    (λ c. (cc, search needs)))
+    (λ c. (rw (← c .before .before .before .before .before .before .before .put-bytes .ensures) (c .before .before .lay-entry .ensures .0), search needs)))
