@@ -12,7 +12,7 @@ use Rattle.group.specs.Sizes.{longestRecord, lastNumber}
 use Rattle.group.proofs.Tests.{within, passed}
 use Rattle.group.specs.declared.Phase.the-variants.{Inside}
 use Rattle.writer.specs.declared.Writer.{Writer}
-use Rattle.writer.specs.State.{isFree, isInside, isOwed, offerKept, endRemainsKept, recordRefusal, separatorRefusal, endRefusal}
+use Rattle.writer.specs.State.{isFree, isInside, isOwed, offerKept, endRemainsKept, endsEmpty, recordRefusal, separatorRefusal, endRefusal}
 use Rattle.writer.specs.Bounds.{Roomy, Grown, Ready, Opened, span}
 use Rattle.writer.proofs.SoundLaws.{Sound, sound, chosen}
 
@@ -30,8 +30,8 @@ pub record Accepted (s : Writer) (g : List ℕ) : Type 0 where
   pub long : length g ≡ s .size
   pub next : s .next ≤ lastNumber
 
-pub ready : {s : Writer} {g : List ℕ} → Accepted s g → Ready s g
-ready {s} {g} a =
+pub is-ready : {s : Writer} {g : List ℕ} → Accepted s g → Ready s g
+is-ready {s} {g} a =
     record {
       roomy = record { high = a .sound .run .most; long = a .long; fits = fits s (a .sound) };
       low = a .sound .run .least;
@@ -115,7 +115,7 @@ pub record Ended (s : Writer) (g : List ℕ) : Type 0 where
   pub sound : Sound s
   pub long : length g ≡ s .size
   pub shut : isInside (s .phase) ≡ false
-  pub next : (not (isOwed (s .phase)) && eqb (s .entries) 0) ≡ false → s .next ≤ lastNumber
+  pub next : endsEmpty s ≡ false → s .next ≤ lastNumber
 
 pub end-accepted : (s : Writer) (g : List ℕ) → endRefusal s (length g) ≡ 0 → Ended s g
 unfolding endRefusal

@@ -1,13 +1,12 @@
 -- What every accepted call leaves: an answer that is no refusal, a sound state, and the information table as it was.
 -- Assumes nothing.
 use mathlib.Core.Path.{_≡_, refl, sym, ap, _∙_, subst}
-use mathlib.Core.Bool.{Bool, true, false, cond, not, _&&_, true≢false}
+use mathlib.Core.Bool.{Bool, true, false, cond, true≢false}
 use mathlib.Core.List.{List}
 use Prim.Native.Nat.{ℕ, _+_, _-_, _≤_, _<_}
 use native.Mathlib.Omega.{arith}
 use lib.ListN.{length, drop, take, getD, replicate, length-replicate}
 use lib.Seq.{length-take-le}
-use lib.Dec.{eqb}
 use borrow.Author.Tests.{eq-eqb}
 use Rattle.group.specs.declared.Kind.{Kind}
 use Rattle.group.specs.declared.Kind.the-variants.{Total, Separator, Middle, Start, Last, Entire, Skip}
@@ -22,7 +21,7 @@ use Rattle.group.proofs.Tests.{within, is-within}
 use Rattle.group.proofs.Stores.{length-put, drop-put}
 use Rattle.group.proofs.EntryLaws.{length-entry}
 use Rattle.writer.specs.declared.Writer.{Writer}
-use Rattle.writer.specs.State.{isFree, isInside, isOwed}
+use Rattle.writer.specs.State.{isFree, isInside, endsEmpty}
 use Rattle.writer.specs.Room.{middleLength, lastWithTotal}
 use Rattle.writer.specs.Laying.{Desk, desk, layEntry, layData, layPart, moved, laySkip, zeroGap, shut, warnState, payOwed, ready}
 use Rattle.writer.specs.Calls.{Done, finished, closed, recordFree, recordInside, recordAccepted, separatorAccepted, endAccepted, told, stateOf}
@@ -69,18 +68,20 @@ carried-owed a b = record { kept = is-within a b; more = λ h. absurd (true≢fa
 carried-sound : {s : Writer} → Sound s → Carried (s .phase) (s .sum) (s .rest)
 carried-sound t = record { kept = t .run .kept; more = t .more; done = t .done }
 
--- A desk in the midst of an accepted call: room for one entry more, and the information table of g.
-record Good (g : List ℕ) (w : Desk) : Type 0 where
-  low : leastSize ≤ w .state .size
-  high : w .state .size ≤ standardSize
-  some : 1 ≤ w .state .next
-  next : w .state .next ≤ lastNumber
-  fits : span (w .state .filled) (w .state .entries + 1) ≤ w .state .size
-  held : 0 < w .state .filled → 0 < w .state .entries
-  long : length g ≡ w .state .size
-  stays : Stays g (w .group)
+-- A desk in the midst of an accepted call, by its numbers: room for one entry more, and the information table of g.
+record Good (g : List ℕ) (size number filled entries : ℕ) (group : List ℕ) : Type 0 where
+  low : leastSize ≤ size
+  high : size ≤ standardSize
+  some : 1 ≤ number
+  next : number ≤ lastNumber
+  fits : span filled (entries + 1) ≤ size
+  long : length g ≡ size
+  stays : Stays g group
 
-good-desk : {s : Writer} {g : List ℕ} → Accepted s g → Good g (desk s g)
+abbrev On : List ℕ → Desk → Type 0
+On g w = Good g (w .state .size) (w .state .next) (w .state .filled) (w .state .entries) (w .group)
+
+good-desk : {s : Writer} {g : List ℕ} → Accepted s g → On g (desk s g)
 good-desk {s} {g} a =
     record {
       low = a .sound .run .least;
@@ -88,40 +89,28 @@ good-desk {s} {g} a =
       some = a .sound .run .some;
       next = a .next;
       fits = fits s (a .sound);
-      held = a .sound .held;
       long = a .long;
       stays = stays-same g;
     }
 
-good-warn : {g : List ℕ} {w : Desk} (warn : Bool) → Good g w → Good g (desk (warnState warn (w .state)) (w .group))
-unfolding warnState
-good-warn warn t = record { low = t .low; high = t .high; some = t .some; next = t .next; fits = t .fits; held = t .held; long = t .long; stays = t .stays }
-
-good-moved : {g : List ℕ} {w : Desk} (phase : Phase) (sum rest : ℕ) → Good g w → Good g (moved phase sum rest w)
-unfolding moved
-good-moved phase sum rest t = record { low = t .low; high = t .high; some = t .some; next = t .next; fits = t .fits; held = t .held; long = t .long; stays = t .stays }
-
-good-part : {g : List ℕ} {w : Desk} (kind : Kind) (bytes : List ℕ) → span (w .state .filled + length bytes) (w .state .entries + 2) ≤ w .state .size
-    → Good g w → Good g (layPart kind bytes w)
-unfolding layPart layData layEntry
-good-part {g} {w} kind bytes fit t =
-    let e = entry (flagOf kind (w .state .warned)) (length bytes) in
-    let four = length-entry e in
+good-data : {g : List ℕ} (w : Desk) (bytes : List ℕ) → span (w .state .filled + length bytes) (w .state .entries + 1) ≤ w .state .size
+    → On g w → On g (layData bytes w)
+unfolding layData
+good-data w bytes fit t =
     record {
       low = t .low;
       high = t .high;
       some = t .some;
       next = t .next;
-      fits = omega arith;
-      held = λ h. omega arith;
+      fits = fit;
       long = t .long;
-      stays = stays-put (entryOffset (w .state .size) (w .state .entries + 1)) (entryBytes e) (omega arith) (stays-put (w .state .filled) bytes (omega arith) (t .stays));
+      stays = stays-put (w .state .filled) bytes (omega arith) (t .stays);
     }
 
-good-entry : {g : List ℕ} {w : Desk} (kind : Kind) (count : ℕ) → span (w .state .filled) (w .state .entries + 2) ≤ w .state .size
-    → Good g w → Good g (layEntry kind count w)
+good-entry : {g : List ℕ} (w : Desk) (kind : Kind) (count : ℕ) → span (w .state .filled) (w .state .entries + 2) ≤ w .state .size
+    → On g w → On g (layEntry kind count w)
 unfolding layEntry
-good-entry {g} {w} kind count fit t =
+good-entry w kind count fit t =
     let e = entry (flagOf kind (w .state .warned)) count in
     let four = length-entry e in
     record {
@@ -130,26 +119,30 @@ good-entry {g} {w} kind count fit t =
       some = t .some;
       next = t .next;
       fits = omega arith;
-      held = λ h. omega arith;
       long = t .long;
       stays = stays-put (entryOffset (w .state .size) (w .state .entries + 1)) (entryBytes e) (omega arith) (t .stays);
     }
 
+good-part : {g : List ℕ} (w : Desk) (kind : Kind) (bytes : List ℕ) → span (w .state .filled + length bytes) (w .state .entries + 2) ≤ w .state .size
+    → On g w → On g (layPart kind bytes w)
+unfolding layPart layData
+good-part w kind bytes fit t = good-entry (layData bytes w) kind (length bytes) fit (good-data w bytes (omega arith) t)
+
 -- b4 as the call says, and an owed total: where it is owed the group is empty, so it has room.
-good-ready : {s : Writer} {g : List ℕ} (warn : Bool) → Accepted s g → Good g (ready warn (desk s g))
-unfolding ready payOwed warnState
+good-ready : {s : Writer} {g : List ℕ} (warn : Bool) → Accepted s g → On g (ready warn (desk s g))
+unfolding ready payOwed warnState moved
 good-ready {s} {g} warn a = by (s .phase) refl
   where
-    on : Good g (desk (warnState warn s) g)
-    on = good-warn warn (good-desk a)
+    on : On g (desk (warnState warn s) g)
+    on = good-desk a
 
     room : Nothing s → span (s .filled) (s .entries + 2) ≤ s .size
     room none = omega (arith, a .sound .run)
 
-    by : (p : Phase) → s .phase ≡ p → Good g (payOwed p (desk (warnState warn s) g))
+    by : (p : Phase) → s .phase ≡ p → On g (payOwed p (desk (warnState warn s) g))
     by Free e = on
     by Inside e = on
-    by Owed e = good-moved Free 0 0 (good-entry Total (s .sum) (room (a .sound .empty (ap isFree e))) on)
+    by Owed e = good-entry (desk (warnState warn s) g) Total (s .sum) (room (a .sound .empty (ap isFree e))) on
 
 -- Then the writer is free, where it was not inside a record, and carries nothing.
 record Freed (s : Writer) : Type 0 where
@@ -189,9 +182,9 @@ pub record Left (g : List ℕ) (d : Done) : Type 0 where
   pub sound : Sound (stateOf (d .answer))
   pub stays : Stays g (d .group)
 
-left-finished : {g : List ℕ} {w : Desk} → Good g w → Freed (w .state) → 1 ≤ w .state .entries → Left g (finished w)
+left-finished : {g : List ℕ} (w : Desk) → On g w → Freed (w .state) → 1 ≤ w .state .entries → Left g (finished w)
 unfolding finished told stateOf
-left-finished t c e =
+left-finished w t c e =
     record {
       accepted = refl;
       sound =
@@ -201,16 +194,16 @@ left-finished t c e =
             empty = λ h. absurd (true≢false (sym (c .free) ∙ h));
             more = c .carried .more;
             done = c .carried .done;
-            held = t .held;
+            held = λ h. e;
             clear = λ h. absurd (omega arith);
             spent = λ h. absurd (omega arith);
           };
       stays = t .stays;
     }
 
-left-closed : {g : List ℕ} {w : Desk} (taken : ℕ) → Good g w → Carried (w .state .phase) (w .state .sum) (w .state .rest) → Left g (closed taken w)
+left-closed : {g : List ℕ} (taken : ℕ) (w : Desk) → On g w → Carried (w .state .phase) (w .state .sum) (w .state .rest) → Left g (closed taken w)
 unfolding closed shut zeroGap laySkip layEntry told stateOf
-left-closed {g} {w} taken t c =
+left-closed taken w t c =
     let s = w .state in
     let e = entry (flagOf Skip (s .warned)) (s .size - s .filled) in
     let four = length-entry e in
@@ -232,34 +225,35 @@ left-closed {g} {w} taken t c =
       stays = stays-put (s .filled) (replicate gap 0) (omega arith) (stays-put (entryOffset (s .size) (s .entries + 1)) (entryBytes e) (omega arith) (t .stays));
     }
 
-left-free : {bytes g : List ℕ} {w : Desk} {d : Done} → Good g w → Freed (w .state) → length bytes ≤ longestRecord → RecordedFree bytes w d → Left g d
+left-free : {bytes g : List ℕ} {w : Desk} {d : Done} → On g w → Freed (w .state) → length bytes ≤ longestRecord → RecordedFree bytes w d → Left g d
 unfolding layPart layData layEntry moved
-left-free {bytes} t c most (entire h) =
-    left-finished (good-part Entire bytes h t) (record { free = c .free; carried = c .carried }) (omega arith)
-left-free {bytes} t c most (start r some less h) =
+left-free {bytes} {g} {w} t c most (entire h) =
+    left-finished (layPart Entire bytes w) (good-part w Entire bytes h t) (record { free = c .free; carried = c .carried }) (omega arith)
+left-free {bytes} {g} {w} t c most (start r some less h) =
     let long : length (take r bytes) ≡ r = length-take-le r bytes (omega arith) in
-    left-closed r (good-moved Inside r (length bytes - r) (good-part Start (take r bytes) (omega arith) t)) (carried-inside some (omega arith) (omega arith))
-left-free t c most (nothing h) = left-closed 0 t (c .carried)
+    left-closed r (moved Inside r (length bytes - r) (layPart Start (take r bytes) w)) (good-part w Start (take r bytes) (omega arith) t) (carried-inside some (omega arith) (omega arith))
+left-free {bytes} {g} {w} t c most (nothing h) = left-closed 0 w t (c .carried)
 
-left-inside : {bytes g : List ℕ} {w : Desk} {d : Done} → Good g w → Continued (w .state) (length bytes) → 1 ≤ length bytes → RecordedInside bytes w d → Left g d
+left-inside : {bytes g : List ℕ} {w : Desk} {d : Done} → On g w → Continued (w .state) (length bytes) → 1 ≤ length bytes → RecordedInside bytes w d → Left g d
 unfolding layPart layData layEntry moved
 left-inside {bytes} {g} {w} t c some (part n e less) =
     let long : length (take n bytes) ≡ n = length-take-le n bytes (omega arith) in
-    left-closed n (good-moved Inside (w .state .sum + n) (length bytes - n) (good-part Middle (take n bytes) (omega (arith, t .low)) t))
+    left-closed n (moved Inside (w .state .sum + n) (length bytes - n) (layPart Middle (take n bytes) w)) (good-part w Middle (take n bytes) (omega (arith, t .low)) t)
     (carried-inside (omega arith) (omega arith) (omega arith))
 left-inside {bytes} {g} {w} t c some (total h) =
     left-finished
-    (good-moved Free 0 0 (good-entry Total (w .state .sum + length bytes) (omega arith) (good-part Last bytes (omega arith) t)))
+    (moved Free 0 0 (layEntry Total (w .state .sum + length bytes) (layPart Last bytes w)))
+    (good-entry (layPart Last bytes w) Total (w .state .sum + length bytes) (omega arith) (good-part w Last bytes (omega arith) t))
     (record { free = refl; carried = carried-free }) (omega arith)
 left-inside {bytes} {g} {w} t c some (owed h k) =
-    left-closed (length bytes) (good-moved Owed (w .state .sum + length bytes) 0 (good-part Last bytes (omega arith) t))
+    left-closed (length bytes) (moved Owed (w .state .sum + length bytes) 0 (layPart Last bytes w)) (good-part w Last bytes (omega arith) t)
     (carried-owed (omega arith) (c .whole))
 
-left-separator : {value : ℕ} {g : List ℕ} {w : Desk} {d : Done} → Good g w → Freed (w .state) → SeparatorLaid value w d → Left g d
+left-separator : {value : ℕ} {g : List ℕ} {w : Desk} {d : Done} → On g w → Freed (w .state) → SeparatorLaid value w d → Left g d
 unfolding layEntry
-left-separator {value} t c (laid h) =
-    left-finished (good-entry Separator value h t) (record { free = c .free; carried = c .carried }) (omega arith)
-left-separator t c (not-laid h) = left-closed 0 t (c .carried)
+left-separator {value} {g} {w} t c (laid h) =
+    left-finished (layEntry Separator value w) (good-entry w Separator value h t) (record { free = c .free; carried = c .carried }) (omega arith)
+left-separator {value} {g} {w} t c (not-laid h) = left-closed 0 w t (c .carried)
 
 -- The three calls.
 pub record-left : {s : Writer} {g : List ℕ} (bytes : List ℕ) (warn : Bool) → Offered s g (length bytes)
@@ -267,7 +261,7 @@ pub record-left : {s : Writer} {g : List ℕ} (bytes : List ℕ) (warn : Bool) �
 unfolding recordAccepted
 record-left {s} {g} bytes warn o = by (s .phase) refl
   where
-    good : Good g (ready warn (desk s g))
+    good : On g (ready warn (desk s g))
     good = good-ready warn (o .accepted)
 
     free : isInside (s .phase) ≡ false → Left g (recordFree bytes (ready warn (desk s g)))
@@ -284,10 +278,10 @@ separator-left {s} {g} value warn a =
 
 pub end-left : {s : Writer} {g : List ℕ} (warn : Bool) → Ended s g → Left g (endAccepted warn (desk s g))
 unfolding endAccepted finished told stateOf
-end-left {s} {g} warn a = by (not (isOwed (s .phase)) && eqb (s .entries) 0) refl
+end-left {s} {g} warn a = by (endsEmpty s) refl
   where
-    by : (p : Bool) → (not (isOwed (s .phase)) && eqb (s .entries) 0) ≡ p → Left g (cond p (finished (desk s g)) (closed 0 (ready warn (desk s g))))
+    by : (p : Bool) → endsEmpty s ≡ p → Left g (cond p (finished (desk s g)) (closed 0 (ready warn (desk s g))))
     by true e = record { accepted = refl; sound = a .sound; stays = stays-same g }
     by false e =
         let k : Accepted s g = record { sound = a .sound; long = a .long; next = a .next e } in
-        left-closed 0 (good-ready warn k) (freed-ready g warn (a .sound) (a .shut) .carried)
+        left-closed 0 (ready warn (desk s g)) (good-ready warn k) (freed-ready g warn (a .sound) (a .shut) .carried)

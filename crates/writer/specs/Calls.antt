@@ -2,7 +2,7 @@
 -- Assumes nothing.
 use Prim.Native.Nat.{ℕ, _+_, _-_}
 use mathlib.Core.List.{List, [], _∷_}
-use mathlib.Core.Bool.{Bool, false, cond, not, _&&_}
+use mathlib.Core.Bool.{Bool, false, cond}
 use lib.ListN.{length, take}
 use lib.Dec.{eqb, leb, ltb}
 use Rattle.group.specs.declared.Kind.the-variants as kind
@@ -16,7 +16,7 @@ use Rattle.writer.specs.declared.WriteAnswer.{WriteAnswer}
 use Rattle.writer.specs.declared.WriteAnswer.the-variants.{Finished, Closed, Refused}
 use Rattle.writer.specs.declared.Fit.{Fit}
 use Rattle.writer.specs.declared.Fit.the-variants as fit
-use Rattle.writer.specs.State.{isOwed, recordRefusal, separatorRefusal, endRefusal}
+use Rattle.writer.specs.State.{endsEmpty, recordRefusal, separatorRefusal, endRefusal}
 use Rattle.writer.specs.Room.{room, fitOf, separatorFits, middleLength, lastWithTotal}
 use Rattle.writer.specs.Laying.{Desk, layEntry, layPart, moved, shut, ready}
 
@@ -25,6 +25,7 @@ pub record Done : Type 0 where
   pub answer : WriteAnswer
   pub group : List ℕ
 
+-- An outcome of the two.
 abbrev pub done : WriteAnswer → List ℕ → Done
 done a g = record { answer = a; group = g }
 
@@ -45,6 +46,7 @@ abbrev pub freshState : ℕ → ℕ → Writer
 freshState size first =
     record { size = size; next = first; phase = Free; warned = false; sum = 0; rest = 0; filled = 0; entries = 0 }
 
+-- "Order: start 2, 3." "A refused start gives no state."
 unfoldable pub writerStartCall : ℕ → ℕ → WriterStart
 writerStartCall size first =
     cond (eqb (startRefusal size first) 0) (start.Started (freshState size first)) (start.Refused (startRefusal size first))
@@ -56,6 +58,7 @@ byFit fit.Entire bytes w = finished (layPart kind.Entire bytes w)
 byFit (fit.Start r) bytes w = closed r (moved Inside r (length bytes - r) (layPart kind.Start (take r bytes) w))
 byFit fit.Close bytes w = closed 0 w
 
+-- "n ≤ r ..": by the room that is left once an owed total is laid.
 unfoldable pub recordFree : List ℕ → Desk → Done
 recordFree bytes w = byFit (fitOf (length bytes) (room (w .state))) bytes w
 
@@ -83,6 +86,7 @@ recordAccepted Free bytes w = recordFree bytes w
 recordAccepted Inside bytes w = recordInside bytes w
 recordAccepted Owed bytes w = recordFree bytes w
 
+-- "given by record": refused, or what an accepted record does once b4 is set and an owed total laid.
 unfoldable pub recordCall : List ℕ → Bool → Desk → Done
 recordCall bytes warn w =
     orRefused (recordRefusal (w .state) (length (w .group)) (length bytes)) w
@@ -93,6 +97,7 @@ unfoldable pub separatorAccepted : ℕ → Desk → Done
 separatorAccepted value w =
     cond (separatorFits (room (w .state))) (finished (layEntry kind.Separator value w)) (closed 0 w)
 
+-- "given by separator": refused, or laid as a record is.
 unfoldable pub separatorCall : ℕ → Bool → Desk → Done
 separatorCall value warn w =
     orRefused (separatorRefusal (w .state) (length (w .group)) value) w (separatorAccepted value (ready warn w))
@@ -101,8 +106,9 @@ separatorCall value warn w =
 -- the state as it came, b4 included."
 unfoldable pub endAccepted : Bool → Desk → Done
 endAccepted warn w =
-    cond (not (isOwed (w .state .phase)) && eqb (w .state .entries) 0) (finished w) (closed 0 (ready warn w))
+    cond (endsEmpty (w .state)) (finished w) (closed 0 (ready warn w))
 
+-- "given by end": refused, or ended.
 unfoldable pub endCall : Bool → Desk → Done
 endCall warn w = orRefused (endRefusal (w .state) (length (w .group))) w (endAccepted warn w)
 
@@ -128,6 +134,7 @@ told (Finished s) = 0 ∷ 0 ∷ 0 ∷ 0 ∷ 0 ∷ 0 ∷ []
 told (Closed s number entries taken) = 0 ∷ 0 ∷ 1 ∷ number ∷ entries ∷ taken ∷ []
 told (Refused s number) = number ∷ 0 ∷ 0 ∷ 0 ∷ 0 ∷ 0 ∷ []
 
+-- .. and of a start.
 unfoldable pub startTold : WriterStart → List ℕ
 startTold (start.Started s) = 0 ∷ 0 ∷ 0 ∷ 0 ∷ 0 ∷ 0 ∷ []
 startTold (start.Refused number) = number ∷ 0 ∷ 0 ∷ 0 ∷ 0 ∷ 0 ∷ []

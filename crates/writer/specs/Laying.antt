@@ -19,6 +19,7 @@ pub record Desk : Type 0 where
   pub state : Writer
   pub group : List ℕ
 
+-- A desk of the two.
 abbrev pub desk : Writer → List ℕ → Desk
 desk s g = record { state = s; group = g }
 
@@ -96,6 +97,7 @@ layData bytes w =
 unfoldable pub layPart : Kind → List ℕ → Desk → Desk
 layPart kind bytes w = layEntry kind (length bytes) (layData bytes w)
 
+-- The same desk, its state in another phase.
 unfoldable pub moved : Phase → ℕ → ℕ → Desk → Desk
 moved phase sum rest w = desk (movedState phase sum rest (w .state)) (w .group)
 

@@ -9,7 +9,7 @@ use Rattle.group.specs.Sizes.{informationLength, entryLength, longestRecord, la
 use Rattle.group.specs.State.{runSound}
 use Rattle.writer.specs.declared.Writer.{Writer}
 
--- "free / inside / owed": whether a phase is the one named.
+-- "free / inside / owed": whether the phase is the one that is named.
 abbrev pub isFree : Phase → Bool
 isFree Free = true
 isFree Inside = false
@@ -86,6 +86,10 @@ valueKept value = leb value 1
 -- "End 1, 4, 17, 14, where 14 is given only if a total is owed."
 abbrev pub endRemainsKept : Writer → Bool
 endRemainsKept s = implies (isOwed (s .phase)) (remainsKept s)
+
+-- "End: free with e = 0, and no total owed, closes nothing."
+abbrev pub endsEmpty : Writer → Bool
+endsEmpty s = not (isOwed (s .phase)) && eqb (s .entries) 0
 
 -- "Record 1, 4, 14, 15, 16." The number of a record's refusal, 0 if it is accepted.
 unfoldable pub recordRefusal : Writer → ℕ → ℕ → ℕ

@@ -23,12 +23,13 @@ pub struct Writer {
     pub entries: u32,
 }
 
+// A start's answer: the state, or the number of the refusal.
 pub enum WriterStart {
     Started(Writer),
     Refused(u32),
 }
 
-// The state stands first in each case, so that it lies at one place whichever it is.
+// A call's answer. The state stands first in each case, so that it lies at one place whichever it is.
 pub enum WriteAnswer {
     Finished(Writer),
     Closed {
@@ -51,6 +52,7 @@ pub enum Fit {
 }
 
 impl Writer {
+    // A fresh writer: free, with nothing laid.
     pub fn start(size: u32, first: u32) -> WriterStart
         ensures { λ r. ⌜ r ≡ writerStartCall size first ⌝ }
     {

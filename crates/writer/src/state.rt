@@ -1,8 +1,6 @@
 // When a writer's state is sound, and what each call refuses: the tests of document 01, in its order.
 ghost use mathlib.Core.Path.{_≡_};
-ghost use mathlib.Core.Bool.{not, _&&_};
-ghost use lib.Dec.{eqb};
-ghost use Rattle.writer.specs.State.{isFree, isInside, isOwed, isEmpty};
+ghost use Rattle.writer.specs.State.{isFree, isInside, isOwed, isEmpty, endsEmpty};
 ghost use Rattle.writer.specs.State.{roomKept, emptyKept, restKept, dataKept, clearKept, spentKept, writerSound};
 ghost use Rattle.writer.specs.State.{recordRefusal, separatorRefusal, endRefusal};
 use crate::Writer;
@@ -210,7 +208,7 @@ pub(crate) fn end_refusal(w: Writer, len: usize) -> u32
 
 // Whether an end closes nothing.
 pub(crate) fn ends_empty(w: Writer) -> bool
-    ensures { λ r. ⌜ r ≡ not (isOwed (w .phase)) && eqb (w .entries) 0 ⌝ }
+    ensures { λ r. ⌜ r ≡ endsEmpty w ⌝ }
 {
     let phase = w.phase;
     if is_owed(phase) {

@@ -6,10 +6,9 @@ use Rattle.writer.specs.Laying.{desk, ready}
 use Rattle.writer.specs.State.{endRefusal}
 use Rattle.writer.specs.Calls.{finished, closed, endAccepted, endCall}
 use Rattle.writer.proofs.Desks.{refuse, accept, clauses}
-use Rattle.writer.proofs.Accepted.{Ended, Accepted, end-accepted}
+use Rattle.writer.proofs.Accepted.{is-ready, Ended, Accepted, end-accepted}
 use lib.ListN.{length}
 use Rattle.writer.specs.Calls.{Done}
-use Rattle.writer.proofs.Accepted as accepted
 use Rattle.writer.proofs.Writer.end.Statement.{statement}
 use Rattle.writer.proofs.Writer.end.Tie as tie
 
@@ -62,7 +61,7 @@ end-spec =
     refused
     (λ c κs. search needs)
     empty
-    (λ c κs. accepted.ready (known (c .before)))
+    (λ c κs. is-ready (known (c .before)))
     close-requires
     (λ c. search needs)
     shut)

@@ -6,14 +6,13 @@ use Rattle.writer.specs.State.{isInside, recordRefusal}
 use Rattle.writer.specs.Laying.{desk, Desk, ready}
 use Rattle.writer.specs.Calls.{Done, recordFree, recordInside, recordAccepted, recordCall}
 use Rattle.writer.proofs.Desks.{refuse, accept, clauses}
-use Rattle.writer.proofs.Accepted.{Offered, record-accepted, opened}
+use Rattle.writer.proofs.Accepted.{is-ready, Offered, record-accepted, opened}
 use Prim.Native.Nat.{ℕ}
 use mathlib.Core.Bool.{true, false, true≢false}
 use mathlib.Core.List.{List}
 use lib.ListN.{length}
 use Rattle.group.specs.declared.Phase.{Phase}
 use Rattle.group.specs.declared.Phase.the-variants.{Free, Inside, Owed}
-use Rattle.writer.proofs.Accepted as accepted
 use Rattle.writer.proofs.Writer.record.Statement.{statement}
 use Rattle.writer.proofs.Writer.record.Tie as tie
 
@@ -85,7 +84,7 @@ record-spec =
     (tie.spec
     (λ c κs. search needs)
     refused
-    (λ c κs. accepted.ready (known (c .before) .accepted))
+    (λ c κs. is-ready (known (c .before) .accepted))
     (λ c κs. search needs)
     inside-requires
     (λ c. search needs)

@@ -6,9 +6,8 @@ use Rattle.writer.specs.Laying.{desk, ready}
 use Rattle.writer.specs.State.{separatorRefusal}
 use Rattle.writer.specs.Calls.{separatorAccepted, separatorCall}
 use Rattle.writer.proofs.Desks.{refuse, accept, clauses}
-use Rattle.writer.proofs.Accepted.{Separated, separator-accepted}
+use Rattle.writer.proofs.Accepted.{is-ready, Separated, separator-accepted}
 use lib.ListN.{length}
-use Rattle.writer.proofs.Accepted as accepted
 use Rattle.writer.proofs.Writer.separator.Statement.{statement}
 use Rattle.writer.proofs.Writer.separator.Tie as tie
 
@@ -46,7 +45,7 @@ separator-spec =
     (tie.spec
     (λ c κs. search needs)
     refused
-    (λ c κs. accepted.ready (known (c .before) .accepted))
+    (λ c κs. is-ready (known (c .before) .accepted))
     separator-requires
     (λ c. search needs)
     laid)
