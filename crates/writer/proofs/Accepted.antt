@@ -13,7 +13,7 @@ use Rattle.group.proofs.Tests.{within, passed}
 use Rattle.group.specs.declared.Phase.the-variants.{Inside}
 use Rattle.writer.specs.declared.Writer.{Writer}
 use Rattle.writer.specs.State.{isFree, isInside, isOwed, offerKept, endRemainsKept, endsEmpty, recordRefusal, separatorRefusal, endRefusal}
-use Rattle.writer.specs.Bounds.{Roomy, Grown, Ready, Opened, span}
+use Rattle.writer.specs.Bounds.{Grown, Ready, Opened, span}
 use Rattle.writer.proofs.SoundLaws.{Sound, sound, chosen}
 
 -- One entry more has its place in a sound state, whatever its phase.

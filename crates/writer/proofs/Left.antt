@@ -1,13 +1,12 @@
 -- What every accepted call leaves: an answer that is no refusal, a sound state, and the information table as it was.
 -- Assumes nothing.
 use mathlib.Core.Path.{_≡_, refl, sym, ap, _∙_, subst}
-use mathlib.Core.Bool.{Bool, true, false, cond, true≢false}
+use mathlib.Core.Bool.{Bool, true, false, true≢false}
 use mathlib.Core.List.{List}
-use Prim.Native.Nat.{ℕ, _+_, _-_, _≤_, _<_}
+use Prim.Native.Nat.{ℕ, _+_, _-_, _≤_}
 use native.Mathlib.Omega.{arith}
 use lib.ListN.{length, drop, take, getD, replicate, length-replicate}
 use lib.Seq.{length-take-le}
-use borrow.Author.Tests.{eq-eqb}
 use Rattle.group.specs.declared.Kind.{Kind}
 use Rattle.group.specs.declared.Kind.the-variants.{Total, Separator, Middle, Start, Last, Entire, Skip}
 use Rattle.group.specs.declared.Phase.{Phase}
@@ -21,14 +20,13 @@ use Rattle.group.proofs.Tests.{within, is-within}
 use Rattle.group.proofs.Stores.{length-put, drop-put}
 use Rattle.group.proofs.EntryLaws.{length-entry}
 use Rattle.writer.specs.declared.Writer.{Writer}
-use Rattle.writer.specs.State.{isFree, isInside, endsEmpty}
-use Rattle.writer.specs.Room.{middleLength, lastWithTotal}
+use Rattle.writer.specs.State.{isFree, isInside}
 use Rattle.writer.specs.Laying.{Desk, desk, layEntry, layData, layPart, moved, laySkip, zeroGap, shut, warnState, payOwed, ready}
-use Rattle.writer.specs.Calls.{Done, finished, closed, recordFree, recordInside, recordAccepted, separatorAccepted, endAccepted, told, stateOf}
+use Rattle.writer.specs.Calls.{Done, finished, closed, recordFree, recordAccepted, separatorAccepted, endAccepted, told, stateOf}
 use Rattle.writer.specs.Bounds.{span}
 use Rattle.writer.proofs.SoundLaws.{Nothing, Sound}
 use Rattle.writer.proofs.Accepted.{Accepted, Offered, Separated, Ended, fits}
-use Rattle.writer.proofs.CallLaws.{RecordedFree, entire, start, nothing, recorded-free, RecordedInside, part, total, owed, recorded-inside, SeparatorLaid, laid, not-laid, separator-laid}
+use Rattle.writer.proofs.CallLaws.{RecordedFree, entire, start, nothing, recorded-free, RecordedInside, part, total, owed, recorded-inside, SeparatorLaid, laid, not-laid, separator-laid, EndLaid, ends-nothing, ends-group, end-laid}
 
 -- A group is as long as another, and its information table the same.
 pub record Stays (g h : List ℕ) : Type 0 where
@@ -255,6 +253,10 @@ left-separator {value} {g} {w} t c (laid h) =
     left-finished (layEntry Separator value w) (good-entry w Separator value h t) (record { free = c .free; carried = c .carried }) (omega arith)
 left-separator {value} {g} {w} t c (not-laid h) = left-closed 0 w t (c .carried)
 
+left-same : {s : Writer} {g : List ℕ} → Ended s g → Left g (finished (desk s g))
+unfolding finished told stateOf
+left-same {s} {g} a = record { accepted = refl; sound = a .sound; stays = stays-same g }
+
 -- The three calls.
 pub record-left : {s : Writer} {g : List ℕ} (bytes : List ℕ) (warn : Bool) → Offered s g (length bytes)
     → Left g (recordAccepted (s .phase) bytes (ready warn (desk s g)))
@@ -277,11 +279,10 @@ separator-left {s} {g} value warn a =
     left-separator (good-ready warn (a .accepted)) (freed-ready g warn (a .accepted .sound) (a .shut)) (separator-laid value (ready warn (desk s g)))
 
 pub end-left : {s : Writer} {g : List ℕ} (warn : Bool) → Ended s g → Left g (endAccepted warn (desk s g))
-unfolding endAccepted finished told stateOf
-end-left {s} {g} warn a = by (endsEmpty s) refl
+end-left {s} {g} warn a = by (end-laid warn (desk s g))
   where
-    by : (p : Bool) → endsEmpty s ≡ p → Left g (cond p (finished (desk s g)) (closed 0 (ready warn (desk s g))))
-    by true e = record { accepted = refl; sound = a .sound; stays = stays-same g }
-    by false e =
+    by : {d : Done} → EndLaid warn (desk s g) d → Left g d
+    by (ends-nothing e) = left-same a
+    by (ends-group e) =
         let k : Accepted s g = record { sound = a .sound; long = a .long; next = a .next e } in
         left-closed 0 (ready warn (desk s g)) (good-ready warn k) (freed-ready g warn (a .sound) (a .shut) .carried)

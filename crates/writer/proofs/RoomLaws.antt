@@ -4,11 +4,10 @@ use mathlib.Core.Path.{_≡_, refl}
 use mathlib.Core.Bool.{Bool, true, false, cond}
 use Prim.Native.Nat.{ℕ, _+_, _*_, _-_, _≤_, _<_}
 use native.Mathlib.Omega.{arith}
-use lib.IntN.{ℤ, pos, negsuc, natAbs}
+use lib.IntN.{pos, negsuc, natAbs}
 use lib.Signed.{leZ}
 use Rattle.group.specs.Sizes.{informationLength, entryLength}
 use Rattle.writer.specs.declared.Writer.{Writer}
-use Rattle.writer.specs.declared.Fit.{Fit}
 use Rattle.writer.specs.declared.Fit.the-variants as fit
 use Rattle.writer.specs.Room.{room, fitOf, separatorFits}
 use Rattle.writer.specs.Bounds.{Fitted, span}

@@ -1,17 +1,17 @@
 -- What a sound state says as facts on numbers, and back.
 -- Assumes nothing.
-use mathlib.Core.Path.{_≡_, refl, sym, ap, _∙_}
+use mathlib.Core.Path.{_≡_, refl, ap}
 use mathlib.Core.Bool.{Bool, true, false, cond, not, _&&_}
 use Prim.Native.Nat.{ℕ, _+_, _*_, _≤_, _<_}
 use native.Mathlib.Omega.{arith}
-use lib.Dec.{eqb, leb, ltb}
+use lib.Dec.{eqb, ltb}
 use borrow.Author.Tests.{leb-true, ltb-true, eqb-true, eq-eqb, le-leb, lt-ltb, not-true}
 use Rattle.group.specs.Sizes.{informationLength, entryLength, longestRecord, lastNumber}
 use Rattle.group.specs.State.{runSound}
 use Rattle.group.proofs.Tests.{both, and}
 use Rattle.group.proofs.StateLaws.{Run, run-of-sound, sound-of-run}
 use Rattle.writer.specs.declared.Writer.{Writer}
-use Rattle.writer.specs.State.{isFree, isInside, isEmpty, implies, roomKept, emptyKept, restKept, dataKept, clearKept, spentKept, writerSound}
+use Rattle.writer.specs.State.{isFree, isInside, isEmpty, roomKept, emptyKept, restKept, dataKept, clearKept, spentKept, writerSound}
 
 -- What a choice says on each side, and a choice from both sides.
 pub chosen : (a b c : Bool) → cond a b c ≡ true → a ≡ true → b ≡ true

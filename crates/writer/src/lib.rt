@@ -44,7 +44,8 @@ pub enum WriteAnswer {
     },
 }
 
-// How a record goes into the room of a free writer: whole, as a start of so many bytes, or not at all.
+// How a record goes into the room of a free writer: whole, as a start of so many bytes, or not at all. Public since the
+// definitions that the contracts cite name it; no call gives one out.
 pub enum Fit {
     Entire,
     Start(u32),

@@ -6,7 +6,7 @@ use Rattle.writer.specs.Laying.{desk, ready}
 use Rattle.writer.specs.State.{endRefusal}
 use Rattle.writer.specs.Calls.{finished, closed, endAccepted, endCall}
 use Rattle.writer.proofs.Desks.{refuse, accept, clauses}
-use Rattle.writer.proofs.Accepted.{is-ready, Ended, Accepted, end-accepted}
+use Rattle.writer.proofs.Accepted.{is-ready, Accepted, end-accepted}
 use lib.ListN.{length}
 use Rattle.writer.specs.Calls.{Done}
 use Rattle.writer.proofs.Writer.end.Statement.{statement}

@@ -1,7 +1,6 @@
 -- `start` meets its contract: the number that `start_refusal` answers decides. Assumes nothing.
 use borrow.Author.Needs.{needs}
 use borrow.Author.Tests.{eq-eqb, ne-eqb}
-use mathlib.Core.Path.{sym, ap, _∙_}
 use Rattle.writer.specs.Calls.{writerStartCall}
 use Rattle.writer.proofs.Writer.start.Statement.{statement}
 use Rattle.writer.proofs.Writer.start.Tie as tie
