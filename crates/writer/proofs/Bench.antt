@@ -1,7 +1,7 @@
 -- Document 01, "Bench table", the writer's cases P1 to P9: what each call is told and each closed group, whole, by computation.
 -- Assumes nothing.
 use mathlib.Core.Path.{_≡_, refl}
-use mathlib.Core.Bool.{Bool, false, cond}
+use mathlib.Core.Bool.{Bool, true, false, cond}
 use mathlib.Core.List.{List, [], _∷_, _++_, map}
 use Prim.Native.Nat.{ℕ, zero, suc}
 use lib.Dec.{eqb}
@@ -159,6 +159,40 @@ cases =
     ∷ record { lent = other; calls = end ∷ []; answers = ok ∷ []; groups = [] }
     ∷ []
 
+-- Beside the table. b4: all entries of a call that sets it carry it, those of later calls to the close too, and the next group
+-- begins anew; an owed total carries that of the call that lays it. A refused call sets nothing.
+unfoldable pub warnings : List Case
+warnings =
+    record {
+      lent = other;
+      calls = aRecord (from 1 25) true ∷ offer 25 1 ∷ aSeparator 2 true ∷ separator ∷ aSeparator 1 true ∷ end ∷ [];
+      answers = shutAs 1 2 24 ∷ ok ∷ (18 ∷ 0 ∷ 0 ∷ 0 ∷ 0 ∷ 0 ∷ []) ∷ ok ∷ ok ∷ shutAs 2 5 0 ∷ [];
+      groups =
+          (from 1 24 ++ (0x88 ∷ 0 ∷ 0 ∷ 40 ∷ 0x4A ∷ 0 ∷ 0 ∷ 24 ∷ []) ++ table)
+          ∷ (from 25 1 ++ zeros 11 ++ (0x88 ∷ 0 ∷ 0 ∷ 63 ∷ 0x0F ∷ 0 ∷ 0 ∷ 1 ∷ 0x07 ∷ 0 ∷ 0 ∷ 0 ∷ 0x01 ∷ 0 ∷ 0 ∷ 25 ∷ 0x60 ∷ 0 ∷ 0 ∷ 1 ∷ []) ++ table)
+          ∷ [];
+    }
+    ∷ record {
+      lent = other;
+      calls = offer 1 45 ∷ anEnd true ∷ separator ∷ offer 25 21 ∷ anEnd true ∷ anEnd true ∷ [];
+      answers = shutAs 1 2 24 ∷ (17 ∷ 0 ∷ 0 ∷ 0 ∷ 0 ∷ 0 ∷ []) ∷ (17 ∷ 0 ∷ 0 ∷ 0 ∷ 0 ∷ 0 ∷ []) ∷ shutAs 2 2 21 ∷ shutAs 3 2 0 ∷ ok ∷ [];
+      groups =
+          startGroup
+          ∷ (from 25 21 ++ zeros 3 ++ (0x80 ∷ 0 ∷ 0 ∷ 43 ∷ 0x60 ∷ 0 ∷ 0 ∷ 21 ∷ []) ++ table)
+          ∷ (zeros 24 ++ (0x88 ∷ 0 ∷ 0 ∷ 64 ∷ 0x09 ∷ 0 ∷ 0 ∷ 45 ∷ []) ++ table)
+          ∷ [];
+    }
+    ∷ []
+
+-- All that must open for a case to be computed.
+unfoldable opens : Unit {0}
+unfolding put bytesOf entryBytes runSound startRefusal roomKept emptyKept restKept dataKept clearKept spentKept writerSound recordRefusal separatorRefusal endRefusal room fitOf layEntry layData layPart moved laySkip zeroGap shut warnState payOwed ready finished closed orRefused writerStartCall byFit recordFree middle last recordInside recordAccepted recordCall separatorAccepted separatorCall endAccepted endCall call told stateOf size closes play begin closedGroups played from zeros other table ok shutAs offer separator end startGroup cases warnings
+opens = tt
+
 pub bench : map played cases ≡ cases
-unfolding put bytesOf entryBytes runSound startRefusal roomKept emptyKept restKept dataKept clearKept spentKept writerSound recordRefusal separatorRefusal endRefusal room fitOf layEntry layData layPart moved laySkip zeroGap shut warnState payOwed ready finished closed orRefused writerStartCall byFit recordFree middle last recordInside recordAccepted recordCall separatorAccepted separatorCall endAccepted endCall call told stateOf size closes play begin closedGroups played from zeros other table ok shutAs offer separator end startGroup cases
+unfolding opens
 bench = refl
+
+pub bench-warnings : map played warnings ≡ warnings
+unfolding opens
+bench-warnings = refl
