@@ -86,7 +86,7 @@ recordAccepted Free bytes w = recordFree bytes w
 recordAccepted Inside bytes w = recordInside bytes w
 recordAccepted Owed bytes w = recordFree bytes w
 
--- "given by record": refused, or what an accepted record does once b4 is set and an owed total laid.
+-- The call: refused, or, once b4 is as it says and an owed total is laid, what an accepted record does.
 unfoldable pub recordCall : List ℕ → Bool → Desk → Done
 recordCall bytes warn w =
     orRefused (recordRefusal (w .state) (length (w .group)) (length bytes)) w
@@ -97,7 +97,7 @@ unfoldable pub separatorAccepted : ℕ → Desk → Done
 separatorAccepted value w =
     cond (separatorFits (room (w .state))) (finished (layEntry kind.Separator value w)) (closed 0 w)
 
--- "given by separator": refused, or laid as a record is.
+-- The call: refused, or, once b4 is as it says and an owed total is laid, what an accepted separator does.
 unfoldable pub separatorCall : ℕ → Bool → Desk → Done
 separatorCall value warn w =
     orRefused (separatorRefusal (w .state) (length (w .group)) value) w (separatorAccepted value (ready warn w))
@@ -105,10 +105,9 @@ separatorCall value warn w =
 -- "End: free with e = 0, and no total owed, closes nothing. Otherwise skip and close." "An end that closes nothing leaves
 -- the state as it came, b4 included."
 unfoldable pub endAccepted : Bool → Desk → Done
-endAccepted warn w =
-    cond (endsEmpty (w .state)) (finished w) (closed 0 (ready warn w))
+endAccepted warn w = cond (endsEmpty (w .state)) (finished w) (closed 0 (ready warn w))
 
--- "given by end": refused, or ended.
+-- The call: refused, or what an accepted end does.
 unfoldable pub endCall : Bool → Desk → Done
 endCall warn w = orRefused (endRefusal (w .state) (length (w .group))) w (endAccepted warn w)
 
