@@ -1,0 +1,13 @@
+-- `clear_kept` meets its contract. Assumes nothing.
+use Rattle.group.proofs.Tests.{tests}
+use Rattle.writer.specs.State.{clearKept}
+use Rattle.writer.proofs.state.clear_kept.Statement.{statement}
+use Rattle.writer.proofs.state.clear_kept.Tie as tie
+
+pub clear-kept-spec : {M : Type 1} → statement M
+unfolding clearKept
+clear-kept-spec =
+    tie.close
+    (tie.spec
+    (λ c. search tests)
+    (λ c. search tests))

@@ -1,0 +1,13 @@
+-- `data_kept` meets its contract. Assumes nothing.
+use Rattle.group.proofs.Tests.{tests}
+use Rattle.writer.specs.State.{dataKept}
+use Rattle.writer.proofs.state.data_kept.Statement.{statement}
+use Rattle.writer.proofs.state.data_kept.Tie as tie
+
+pub data-kept-spec : {M : Type 1} → statement M
+unfolding dataKept
+data-kept-spec =
+    tie.close
+    (tie.spec
+    (λ c. search tests)
+    (λ c. search tests))
