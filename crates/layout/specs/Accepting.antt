@@ -1,0 +1,17 @@
+-- A run that a reader accepts, group by group, by the answers of the read call and the rows that it leaves.
+-- Assumes nothing.
+use Prim.Native.Nat.{ℕ}
+use mathlib.Core.List.{List, [], _∷_}
+use mathlib.Core.Path.{_≡_}
+use lib.ListN.{length}
+use Rattle.reader.specs.declared.Reader.{Reader}
+use Rattle.reader.specs.declared.ReadAnswer.the-variants as answer
+use Rattle.reader.specs.Answer.{readCall, groupRows, rowsLeft}
+use Rattle.layout.specs.Layout.{Image}
+
+-- From a state over a run to a state. Each read is lent rows of any length, `old`, and leaves the rows that are listed.
+pub data Accepts : Reader → List Image → List (List ℕ) → Reader → Type 0 where
+  accepts-none : {s : Reader} → Accepts s [] [] s
+  accepts-more : {s t u : Reader} {g : Image} {gs : List Image} {rows : List (List ℕ)} (old : List ℕ) →
+      readCall s (g .bytes) (g .number) (g .entries) (length old) ≡ answer.Accepted t → Accepts t gs rows u →
+      Accepts s (g ∷ gs) (rowsLeft (readCall s (g .bytes) (g .number) (g .entries) (length old)) (groupRows s (g .bytes) (g .entries)) old ∷ rows) u
