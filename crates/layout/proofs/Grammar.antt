@@ -1,0 +1,272 @@
+-- The grammar of tokens, by the reader's own tables, and that it takes exactly the tokens of sound laid items.
+-- Assumes nothing.
+use Prim.Native.Nat.{ℕ, zero, suc, _+_, _-_, _≤_, _<_}
+use native.Mathlib.Omega.{arith}
+use native.Mathlib.Nat.{zero-add, add-zero, add-assoc}
+use mathlib.Core.List.{List, [], _∷_, _++_, append-assoc, append-nil}
+use mathlib.Core.Bool.{Bool, true, false, cond, false≢true}
+use mathlib.Core.Path.{_≡_, refl, sym, ap, _∙_, subst}
+use lib.ListN.{length, length-append}
+use lib.Dec.{leb, eqb}
+use borrow.Author.Tests.{leb-true, le-leb, eqb-true, eq-eqb}
+use Rattle.group.specs.declared.Kind.the-variants.{Total, Separator, Skip}
+use Rattle.group.specs.Sizes.{longestRecord}
+use Rattle.reader.specs.declared.Stand.{Stand}
+use Rattle.reader.specs.declared.Stand.the-variants.{Free, AfterPart, Inside, AfterLast, Owed}
+use Rattle.reader.specs.Rules.{mayFollow, partFault, countFault, standAfter, sumAfter, standAt, phaseAfter}
+use Rattle.reader.proofs.Faults.{part-kept}
+use Rattle.layout.specs.Items.{Laid, Tail, Piece, Token, tokens, tailTokens, middles, lateBy, joined, wholeOf, soFar, Each, Part, LateKept, SoundLaid, SoundTail}
+use Rattle.layout.specs.Items.Each.{each-none, each-more}
+use Rattle.layout.specs.Items.SoundLaid.{sound-entire, sound-spanned, sound-separator, sound-early}
+use Rattle.layout.specs.Items.SoundTail.{sound-none, sound-inside, sound-owed}
+use Rattle.layout.specs.Items.Laid.{laidEntire, laidSpanned, laidSeparator, endedEarly}
+use Rattle.layout.specs.Items.Tail.{noneOpen, brokenInside, brokenOwed}
+use Rattle.layout.specs.Items.Piece.{aTotal, aSeparator, aMiddle, aStart, aLast, anEntire}
+use Rattle.layout.specs.Items.Token.{piece, groupEnd}
+use Rattle.layout.specs.Layout.{kindOf, countOf}
+
+-- A piece may stand at a place, standAfter parts that add to sum.
+pub record Fits (at : Stand) (sum : ℕ) (p : Piece) : Type 0 where
+  pub follows : mayFollow at (kindOf p) ≡ true
+  pub kept : countFault (kindOf p) sum (countOf p) ≡ 0
+  pub small : countOf p ≤ longestRecord
+
+-- The tokens lead from a place and a sum to the place `to` and the sum `n`.
+pub data Walk (to : Stand) (n : ℕ) : Stand → ℕ → List Token → Type 0 where
+  stop : Walk to n to n []
+  step : {at : Stand} {sum : ℕ} {p : Piece} {ts : List Token} →
+      Fits at sum p → Walk to n (standAfter at (kindOf p)) (sumAfter (kindOf p) sum (countOf p)) ts → Walk to n at sum (piece p ∷ ts)
+  leap : {at : Stand} {sum : ℕ} {ts : List Token} →
+      mayFollow at Skip ≡ true → Walk to n (standAt (phaseAfter at)) sum ts → Walk to n at sum (groupEnd ∷ ts)
+
+-- A part that keeps its rule has no fault.
+part-fits : (count parts most : ℕ) → 1 ≤ count → parts ≤ most → partFault count parts most ≡ 0
+part-fits count parts most h k = rw (le-leb 1 count h, le-leb parts most k)
+
+-- From sound laid items to a walk.
+module _ {to : Stand} {n : ℕ} where
+  at-entire : {r : List ℕ} {ts : List Token} → Part r → length r ≤ longestRecord → Walk to n Free 0 ts → Walk to n Free 0 (piece (anEntire r) ∷ ts)
+  unfolding mayFollow kindOf countOf
+  at-entire {r} p h w = step {p = anEntire r} (record { follows = refl; kept = part-fits (length r) (length r) longestRecord p h; small = h }) w
+
+  at-separator : {v : ℕ} {ts : List Token} → v ≤ 1 → Walk to n Free 0 ts → Walk to n Free 0 (piece (aSeparator v) ∷ ts)
+  unfolding mayFollow kindOf countOf
+  at-separator {v} h w = step {sum = 0} {p = aSeparator v} (record { follows = refl; kept = rw (le-leb v 1 h); small = omega arith }) w
+
+  at-early : {ts : List Token} → Walk to n Free 0 ts → Walk to n Free 0 (groupEnd ∷ ts)
+  unfolding mayFollow
+  at-early w = leap refl w
+
+  at-start : {p : List ℕ} {ts : List Token} → Part p → length p ≤ (longestRecord - 1) → Walk to n Inside (length p) ts → Walk to n Free 0 (piece (aStart p) ∷ groupEnd ∷ ts)
+  unfolding mayFollow kindOf countOf
+  at-start {p} part h w = step {p = aStart p} (record { follows = refl; kept = part-fits (length p) (length p) (longestRecord - 1) part h; small = omega arith }) (leap refl w)
+
+  at-middle : {s : ℕ} {p : List ℕ} {ts : List Token} → Part p → s + length p ≤ (longestRecord - 1) → Walk to n Inside (s + length p) ts → Walk to n Inside s (piece (aMiddle p) ∷ groupEnd ∷ ts)
+  unfolding mayFollow kindOf countOf
+  at-middle {s} {p} part h w = step {p = aMiddle p} (record { follows = refl; kept = part-fits (length p) (s + length p) (longestRecord - 1) part h; small = omega arith }) (leap refl w)
+
+  at-last : {s : ℕ} {q : List ℕ} {ts : List Token} → Part q → s + length q ≤ longestRecord → Walk to n AfterLast (s + length q) ts → Walk to n Inside s (piece (aLast q) ∷ ts)
+  unfolding mayFollow kindOf countOf
+  at-last {s} {q} part h w = step {p = aLast q} (record { follows = refl; kept = part-fits (length q) (s + length q) longestRecord part h; small = omega arith }) w
+
+  at-total : {s : ℕ} {m : ℕ} {ts : List Token} → (l : Bool) → m ≡ s → s ≤ longestRecord → Walk to n Free 0 ts → Walk to n AfterLast s (lateBy l (piece (aTotal m) ∷ ts))
+  unfolding mayFollow kindOf countOf lateBy
+  at-total {s} {m} true e h w = leap refl (step {sum = s} {p = aTotal m} (record { follows = refl; kept = rw (eq-eqb m s e); small = omega arith }) w)
+  at-total {s} {m} false e h w = step {sum = s} {p = aTotal m} (record { follows = refl; kept = rw (eq-eqb m s e); small = omega arith }) w
+
+  at-middles : {s : ℕ} {ps : List (List ℕ)} {ts : List Token} → Each Part ps → s + length (joined ps) ≤ (longestRecord - 1) → Walk to n Inside (s + length (joined ps)) ts → Walk to n Inside s (middles ps ts)
+  unfolding middles joined
+  at-middles {s} each-none h w = rw add-zero at w
+  at-middles {s} (each-more {a = p} {l = ps} part rest) h w =
+      let e : s + length (p ++ joined ps) ≡ s + length p + length (joined ps) = simp length-append (omega arith) in
+      at-middle part (omega arith) (at-middles rest (omega arith) (rw e at w))
+
+unfoldable pub tailPlace : Tail → Stand
+tailPlace noneOpen = Free
+tailPlace (brokenInside p ps) = Inside
+tailPlace (brokenOwed p ps q) = Owed
+
+unfoldable pub tailSum : Tail → ℕ
+tailSum noneOpen = 0
+tailSum (brokenInside p ps) = length p + length (joined ps)
+tailSum (brokenOwed p ps q) = length p + length (joined ps) + length q
+
+length-whole : (p : List ℕ) (ps : List (List ℕ)) (q : List ℕ) → length (wholeOf p ps q) ≡ length p + length (joined ps) + length q
+unfolding wholeOf
+length-whole p ps q = simp length-append (omega arith)
+
+pub walk-tail : {size : ℕ} {t : Tail} → SoundTail size t → Walk (tailPlace t) (tailSum t) Free 0 (tailTokens t)
+unfolding tailPlace tailSum tailTokens mayFollow
+walk-tail sound-none = stop
+walk-tail (sound-inside {p} {ps} a b h) =
+    let e : length (p ++ joined ps) ≡ length p + length (joined ps) = length-append p (joined ps) in
+    at-start a (omega arith) (at-middles b (omega arith) stop)
+walk-tail (sound-owed {p} {ps} {q} a b c h m) =
+    let e : length (wholeOf p ps q) ≡ length p + length (joined ps) + length q = length-whole p ps q in
+    at-start a (omega arith) (at-middles b (omega arith) (at-last c (omega arith) (leap refl stop)))
+
+pub walk-laid : {size : ℕ} {ls : List Laid} {t : Tail} → Each (SoundLaid size) ls → SoundTail size t → Walk (tailPlace t) (tailSum t) Free 0 (tokens ls t)
+unfolding tokens
+walk-laid each-none t = walk-tail t
+walk-laid (each-more (sound-entire a h) ls) t = at-entire a h (walk-laid ls t)
+walk-laid (each-more (sound-spanned {p} {ps} {q} {late = l} a b c h m) ls) t =
+    let e : length (wholeOf p ps q) ≡ length p + length (joined ps) + length q = length-whole p ps q in
+    at-start a (omega arith) (at-middles b (omega arith) (at-last c (omega arith) (at-total l e (omega arith) (walk-laid ls t))))
+walk-laid (each-more (sound-separator h) ls) t = at-separator h (walk-laid ls t)
+walk-laid (each-more sound-early ls) t = at-early (walk-laid ls t)
+
+-- From a walk to sound laid items. What has been read of an open record, at each place.
+pub data Open : Stand → ℕ → Type 0 where
+  o-free : Open Free 0
+  o-start : {s : ℕ} (p : List ℕ) → Part p → length p ≤ (longestRecord - 1) → s ≡ length p → Open AfterPart s
+  o-middle : {s : ℕ} (p : List ℕ) (ps : List (List ℕ)) (m : List ℕ) → Part p → Each Part ps → Part m →
+      s ≤ (longestRecord - 1) → s ≡ length p + length (joined ps) + length m → Open AfterPart s
+  o-inside : {s : ℕ} (p : List ℕ) (ps : List (List ℕ)) → Part p → Each Part ps → s ≤ (longestRecord - 1) → s ≡ length p + length (joined ps) → Open Inside s
+  o-ended : {s : ℕ} (p : List ℕ) (ps : List (List ℕ)) (q : List ℕ) → Part p → Each Part ps → Part q →
+      s ≤ longestRecord → s ≡ length p + length (joined ps) + length q → Open AfterLast s
+  o-owed : {s : ℕ} (p : List ℕ) (ps : List (List ℕ)) (q : List ℕ) → Part p → Each Part ps → Part q →
+      s ≤ longestRecord → s ≡ length p + length (joined ps) + length q → Open Owed s
+
+-- The tokens of what has been read, and then others.
+unfoldable pub before : {at : Stand} {s : ℕ} → Open at s → List Token → List Token
+before o-free ts = ts
+before (o-start p a h e) ts = piece (aStart p) ∷ ts
+before (o-middle p ps m a b c h e) ts = piece (aStart p) ∷ groupEnd ∷ middles ps (piece (aMiddle m) ∷ ts)
+before (o-inside p ps a b h e) ts = piece (aStart p) ∷ groupEnd ∷ middles ps ts
+before (o-ended p ps q a b c h e) ts = piece (aStart p) ∷ groupEnd ∷ middles ps (piece (aLast q) ∷ ts)
+before (o-owed p ps q a b c h e) ts = piece (aStart p) ∷ groupEnd ∷ middles ps (piece (aLast q) ∷ groupEnd ∷ ts)
+
+-- Sound laid items with these tokens.
+pub record Found (size : ℕ) (ts : List Token) : Type 0 where
+  pub laid : List Laid
+  pub tail : Tail
+  pub sound : Each (SoundLaid size) laid
+  pub soundTail : SoundTail size tail
+  pub shows : tokens laid tail ≡ ts
+
+pub record Next (size : ℕ) {at : Stand} {s : ℕ} (o : Open at s) (t : Token) (at′ : Stand) (s′ : ℕ) : Type 0 where
+  pub opens : Open at′ s′
+  pub back : (ts : List Token) → Found size (before opens ts) → Found size (before o (t ∷ ts))
+
+each-snoc : {ps : List (List ℕ)} (m : List ℕ) → Each Part ps → Part m → Each Part (ps ++ (m ∷ []))
+each-snoc m each-none h = each-more h each-none
+each-snoc m (each-more a r) h = each-more a (each-snoc m r h)
+
+middles-snoc : (ps : List (List ℕ)) (m : List ℕ) (ts : List Token) → middles (ps ++ (m ∷ [])) ts ≡ middles ps (piece (aMiddle m) ∷ groupEnd ∷ ts)
+unfolding middles
+middles-snoc [] m ts = refl
+middles-snoc (p ∷ ps) m ts = ap {B = List Token} (λ r. piece (aMiddle p) ∷ groupEnd ∷ r) (middles-snoc ps m ts)
+
+length-snoc : (ps : List (List ℕ)) (m : List ℕ) → length (joined (ps ++ (m ∷ []))) ≡ length (joined ps) + length m
+unfolding joined
+length-snoc [] m = simp append-nil (omega arith)
+length-snoc (p ∷ ps) m = simp (length-append, length-snoc ps m) (omega arith)
+
+separator-kept : (v sum : ℕ) → countFault Separator sum v ≡ 0 → v ≤ 1
+separator-kept v sum e = by (leb v 1) refl e
+  where
+    by : (b : Bool) → leb v 1 ≡ b → _≡_ {A = ℕ} (cond b 0 11) 0 → v ≤ 1
+    by true x h = leb-true v 1 x
+    by false x h = absurd (omega arith)
+
+total-kept : (n sum : ℕ) → countFault Total sum n ≡ 0 → n ≡ sum
+total-kept n sum e = by (eqb n sum) refl e
+  where
+    by : (b : Bool) → eqb n sum ≡ b → _≡_ {A = ℕ} (cond b 0 11) 0 → n ≡ sum
+    by true x h = eqb-true n sum x
+    by false x h = absurd (omega arith)
+
+not-begun : (s : ℕ) (p : Piece) → Fits AfterPart s p → ⊥
+unfolding mayFollow kindOf
+not-begun s (aTotal n) f = false≢true (f .follows)
+not-begun s (aSeparator n) f = false≢true (f .follows)
+not-begun s (aMiddle bs) f = false≢true (f .follows)
+not-begun s (aStart bs) f = false≢true (f .follows)
+not-begun s (aLast bs) f = false≢true (f .follows)
+not-begun s (anEntire bs) f = false≢true (f .follows)
+
+found-entire : (size : ℕ) {r : List ℕ} {ts : List Token} → Part r → length r ≤ longestRecord → Found size ts → Found size (piece (anEntire r) ∷ ts)
+unfolding tokens
+found-entire size {r} a h f = record { laid = laidEntire r ∷ f .laid; tail = f .tail; sound = each-more (sound-entire a h) (f .sound); soundTail = f .soundTail; shows = ap {B = List Token} (λ x. piece (anEntire r) ∷ x) (f .shows) }
+
+found-separator : (size : ℕ) {v : ℕ} {ts : List Token} → v ≤ 1 → Found size ts → Found size (piece (aSeparator v) ∷ ts)
+unfolding tokens
+found-separator size {v} h f = record { laid = laidSeparator v ∷ f .laid; tail = f .tail; sound = each-more (sound-separator h) (f .sound); soundTail = f .soundTail; shows = ap {B = List Token} (λ x. piece (aSeparator v) ∷ x) (f .shows) }
+
+found-early : (size : ℕ) {ts : List Token} → Found size ts → Found size (groupEnd ∷ ts)
+unfolding tokens
+found-early size f = record { laid = endedEarly ∷ f .laid; tail = f .tail; sound = each-more sound-early (f .sound); soundTail = f .soundTail; shows = ap {B = List Token} (λ x. groupEnd ∷ x) (f .shows) }
+
+-- Any total may be late.
+late-kept : (size : ℕ) (q : List ℕ) (l : Bool) → LateKept size q l
+late-kept size q true = tt
+late-kept size q false = tt
+
+found-spanned : (size : ℕ) (p : List ℕ) (ps : List (List ℕ)) (q : List ℕ) (l : Bool) (n : ℕ) (ts : List Token) → Part p → Each Part ps → Part q → length p + length (joined ps) + length q ≤ longestRecord →
+    n ≡ length p + length (joined ps) + length q → Found size ts → Found size (piece (aStart p) ∷ groupEnd ∷ middles ps (piece (aLast q) ∷ lateBy l (piece (aTotal n) ∷ ts)))
+unfolding tokens
+found-spanned size p ps q l n ts a b c h e f =
+    let w : length (wholeOf p ps q) ≡ length p + length (joined ps) + length q = length-whole p ps q in
+    let m : n ≡ length (wholeOf p ps q) = omega arith in
+    record { laid = laidSpanned p ps q l ∷ f .laid; tail = f .tail; sound = each-more (sound-spanned {p = p} {ps = ps} {q = q} {late = l} a b c (omega arith) (late-kept size q l)) (f .sound); soundTail = f .soundTail; shows = rw (m, f .shows) }
+
+pub take-piece : (size : ℕ) {at : Stand} {s : ℕ} (o : Open at s) (p : Piece) → Fits at s p → Next size o (piece p) (standAfter at (kindOf p)) (sumAfter (kindOf p) s (countOf p))
+unfolding mayFollow kindOf countOf before lateBy
+take-piece size o-free (aTotal n) f = absurd (false≢true (f .follows))
+take-piece size o-free (aSeparator n) f = record { opens = o-free; back = λ ts r. found-separator size (separator-kept n 0 (f .kept)) r }
+take-piece size o-free (aMiddle bs) f = absurd (false≢true (f .follows))
+take-piece size o-free (aStart bs) f = let (h, i) = part-kept (length bs) (length bs) (longestRecord - 1) (f .kept) in record { opens = o-start bs h i refl; back = λ ts r. r }
+take-piece size o-free (aLast bs) f = absurd (false≢true (f .follows))
+take-piece size o-free (anEntire bs) f = record { opens = o-free; back = λ ts r. found-entire size (part-kept (length bs) (length bs) longestRecord (f .kept) .0) (f .small) r }
+take-piece size {s} (o-start p a h e) x f = absurd (not-begun s x f)
+take-piece size {s} (o-middle p ps m a b c h e) x f = absurd (not-begun s x f)
+take-piece size {s} (o-inside p ps a b h e) (aTotal n) f = absurd (false≢true (f .follows))
+take-piece size {s} (o-inside p ps a b h e) (aSeparator n) f = absurd (false≢true (f .follows))
+take-piece size {s} (o-inside p ps a b h e) (aMiddle bs) f = let (i, j) = part-kept (length bs) (s + length bs) (longestRecord - 1) (f .kept) in record { opens = o-middle p ps bs a b i j (omega arith); back = λ ts r. r }
+take-piece size {s} (o-inside p ps a b h e) (aStart bs) f = absurd (false≢true (f .follows))
+take-piece size {s} (o-inside p ps a b h e) (aLast bs) f = let (i, j) = part-kept (length bs) (s + length bs) longestRecord (f .kept) in record { opens = o-ended p ps bs a b i j (omega arith); back = λ ts r. r }
+take-piece size {s} (o-inside p ps a b h e) (anEntire bs) f = absurd (false≢true (f .follows))
+take-piece size {s} (o-ended p ps q a b c h e) (aTotal n) f = record { opens = o-free; back = λ ts r. found-spanned size p ps q false n ts a b c (omega arith) (omega (arith, total-kept n s (f .kept))) r }
+take-piece size {s} (o-ended p ps q a b c h e) (aSeparator n) f = absurd (false≢true (f .follows))
+take-piece size {s} (o-ended p ps q a b c h e) (aMiddle bs) f = absurd (false≢true (f .follows))
+take-piece size {s} (o-ended p ps q a b c h e) (aStart bs) f = absurd (false≢true (f .follows))
+take-piece size {s} (o-ended p ps q a b c h e) (aLast bs) f = absurd (false≢true (f .follows))
+take-piece size {s} (o-ended p ps q a b c h e) (anEntire bs) f = absurd (false≢true (f .follows))
+take-piece size {s} (o-owed p ps q a b c h e) (aTotal n) f = record { opens = o-free; back = λ ts r. found-spanned size p ps q true n ts a b c (omega arith) (omega (arith, total-kept n s (f .kept))) r }
+take-piece size {s} (o-owed p ps q a b c h e) (aSeparator n) f = absurd (false≢true (f .follows))
+take-piece size {s} (o-owed p ps q a b c h e) (aMiddle bs) f = absurd (false≢true (f .follows))
+take-piece size {s} (o-owed p ps q a b c h e) (aStart bs) f = absurd (false≢true (f .follows))
+take-piece size {s} (o-owed p ps q a b c h e) (aLast bs) f = absurd (false≢true (f .follows))
+take-piece size {s} (o-owed p ps q a b c h e) (anEntire bs) f = absurd (false≢true (f .follows))
+
+pub take-end : (size : ℕ) {at : Stand} {s : ℕ} (o : Open at s) → mayFollow at Skip ≡ true → Next size o groupEnd (standAt (phaseAfter at)) s
+unfolding mayFollow before joined middles
+take-end size o-free f = record { opens = o-free; back = λ ts r. found-early size r }
+take-end size {s} (o-start p a h e) f = record { opens = o-inside {s = s} p [] a each-none (omega arith) (omega arith); back = λ ts r. r }
+take-end size {s} (o-middle p ps m a b c h e) f = record { opens = o-inside {s = s} p (ps ++ (m ∷ [])) a (each-snoc m b c) h (omega (arith, length-snoc ps m)); back = λ ts r. rw (middles-snoc ps m ts) at r }
+take-end size (o-inside p ps a b h e) f = absurd (false≢true f)
+take-end size (o-ended p ps q a b c h e) f = record { opens = o-owed p ps q a b c h e; back = λ ts r. r }
+take-end size (o-owed p ps q a b c h e) f = absurd (false≢true f)
+
+-- The places between groups.
+pub data Between : Stand → Type 0 where
+  b-free : Between Free
+  b-inside : Between Inside
+  b-owed : Between Owed
+
+found-end : (size : ℕ) {at : Stand} {s : ℕ} → Between at → (o : Open at s) → Found size (before o [])
+unfolding before tokens tailTokens
+found-end size b-free o-free = record { laid = []; tail = noneOpen; sound = each-none; soundTail = sound-none; shows = refl }
+found-end size b-inside (o-inside p ps a b h e) =
+    record { laid = []; tail = brokenInside p ps; sound = each-none; soundTail = sound-inside {p = p} {ps = ps} a b (simp length-append (omega arith)); shows = refl }
+found-end size b-owed (o-owed p ps q a b c h e) =
+    record { laid = []; tail = brokenOwed p ps q; sound = each-none; soundTail = sound-owed {p = p} {ps = ps} {q = q} a b c (omega (arith, length-whole p ps q)) tt; shows = refl }
+
+pub find : (size : ℕ) {to at : Stand} {n s : ℕ} {ts : List Token} → Between to → (o : Open at s) → Walk to n at s ts → Found size (before o ts)
+find size b o stop = found-end size b o
+find size b o (step {p} {ts} f w) = (take-piece size o p f) .back ts (find size b ((take-piece size o p f) .opens) w)
+find size b o (leap {ts} h w) = (take-end size o h) .back ts (find size b ((take-end size o h) .opens) w)
+
+pub walk-found : (size : ℕ) {to : Stand} {n : ℕ} {ts : List Token} → Between to → Walk to n Free 0 ts → Found size ts
+unfolding before
+walk-found size b w = find size b o-free w

@@ -1,0 +1,2 @@
+-- What the theorems over reader and writer are made of, and the theorems.
+pub mod Grammar
