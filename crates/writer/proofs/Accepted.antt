@@ -1,18 +1,18 @@
 -- What an accepted call knows: each test of its chain of refusals was passed.
 -- Assumes nothing.
 use mathlib.Core.Path.{_≡_, refl, ap}
-use mathlib.Core.Bool.{Bool, true, false, not, _&&_}
+use mathlib.Core.Bool.{Bool, true, false, cond, not, _&&_}
 use mathlib.Core.List.{List}
 use Prim.Native.Nat.{ℕ, _+_, _≤_}
 use native.Mathlib.Omega.{arith}
 use lib.ListN.{length}
 use lib.Dec.{eqb}
 use borrow.Author.Tests.{leb-true, eqb-true, eqb-false, not-false, not-true}
-use Rattle.group.specs.Sizes.{longestRecord, lastNumber}
+use Rattle.group.specs.Sizes.{longestRecord, lastNumber, recordKept}
 use Rattle.group.proofs.Tests.{within, passed}
 use Rattle.group.specs.declared.Phase.the-variants.{Inside}
 use Rattle.writer.specs.declared.Writer.{Writer}
-use Rattle.writer.specs.State.{isFree, isInside, isOwed, offerKept, endRemainsKept, endsEmpty, recordRefusal, separatorRefusal, endRefusal}
+use Rattle.writer.specs.State.{isFree, isInside, isOwed, writerSound, lengthKept, remainsKept, noneOpenKept, valueKept, offerKept, endRemainsKept, endsEmpty, recordRefusal, separatorRefusal, endRefusal}
 use Rattle.writer.specs.Bounds.{Grown, Ready, Opened, span}
 use Rattle.writer.proofs.SoundLaws.{Sound, sound, chosen}
 
@@ -39,6 +39,22 @@ is-ready {s} {g} a =
       owing = λ p. a .sound .empty (ap isFree p);
     }
 
+-- The links "1, 4, 14", with which a record's chain and a separator's begin.
+opening : (s : Writer) (g : List ℕ) (more : ℕ)
+    → cond (not (writerSound s)) 1 (cond (not (lengthKept s (length g))) 4 (cond (not (remainsKept s)) 14 more)) ≡ 0
+    → Accepted s g × (more ≡ 0)
+opening s g more e =
+    let a = passed _ _ e in
+    let b = passed _ _ (a .1) in
+    let c = passed (not (remainsKept s)) 13 (b .1) in (
+      record {
+        sound = sound s (not-false _ (a .0));
+        long = eqb-true _ _ (not-false _ (b .0));
+        next = leb-true _ _ (not-false _ (c .0));
+      },
+      c .1,
+    )
+
 -- What an accepted record of n bytes knows besides.
 pub record Offered (s : Writer) (g : List ℕ) (n : ℕ) : Type 0 where
   pub accepted : Accepted s g
@@ -49,19 +65,12 @@ pub record Offered (s : Writer) (g : List ℕ) (n : ℕ) : Type 0 where
 pub record-accepted : (s : Writer) (g : List ℕ) (n : ℕ) → recordRefusal s (length g) n ≡ 0 → Offered s g n
 unfolding recordRefusal
 record-accepted s g n e =
-    let a = passed _ _ e in
-    let b = passed _ _ (a .1) in
-    let c = passed _ _ (b .1) in
-    let d = passed _ _ (c .1) in
+    let a = opening s g (cond (not (recordKept n)) 15 (cond (not (offerKept s n)) 16 0)) e in
+    let d = passed _ _ (a .1) in
     let f = passed (not (offerKept s n)) 15 (d .1) in
     let m = within 1 n longestRecord (not-false _ (d .0)) in
     record {
-      accepted =
-          record {
-            sound = sound s (not-false _ (a .0));
-            long = eqb-true _ _ (not-false _ (b .0));
-            next = leb-true _ _ (not-false _ (c .0));
-          };
+      accepted = a .0;
       some = m .0;
       most = m .1;
       rest = λ h. eqb-true n (s .rest) (chosen (isInside (s .phase)) _ true (not-false _ (f .0)) h);
@@ -91,18 +100,11 @@ pub record Separated (s : Writer) (g : List ℕ) (value : ℕ) : Type 0 where
 pub separator-accepted : (s : Writer) (g : List ℕ) (value : ℕ) → separatorRefusal s (length g) value ≡ 0 → Separated s g value
 unfolding separatorRefusal
 separator-accepted s g value e =
-    let a = passed _ _ e in
-    let b = passed _ _ (a .1) in
-    let c = passed _ _ (b .1) in
-    let d = passed _ _ (c .1) in
+    let a = opening s g (cond (not (noneOpenKept s)) 17 (cond (not (valueKept value)) 18 0)) e in
+    let d = passed _ _ (a .1) in
     let f = passed _ _ (d .1) in
     record {
-      accepted =
-          record {
-            sound = sound s (not-false _ (a .0));
-            long = eqb-true _ _ (not-false _ (b .0));
-            next = leb-true _ _ (not-false _ (c .0));
-          };
+      accepted = a .0;
       shut = not-true _ (not-false _ (d .0));
       small = leb-true _ _ (not-false _ (f .0));
     }

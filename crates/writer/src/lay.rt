@@ -23,9 +23,9 @@ pub(crate) fn lay_entry(w: Writer, group: &mut [u8], kind: Kind, count: u32) -> 
     ensures { λ r. ⌜ Grown r w 0 1 ⌝ }
 {
     let entries = w.entries + 1;
-    let at = room::entry_offset(w.size, entries);
+    let at = room::entry_offset(w.size, entries) as usize;
     let flag = flags::flag_of(kind, w.warned);
-    numbers::put_entry(group, at as usize, flag, count);
+    numbers::put_entry(group, at, flag, count);
     let mut v = w;
     v.entries = entries;
     v

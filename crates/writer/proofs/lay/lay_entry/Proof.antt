@@ -10,9 +10,9 @@ lay-entry-spec =
     tie.close
     (tie.spec
     (λ c. search needs)
-    (λ c. search needs)
     (λ c κs. search needs)
     (λ c. search needs)
     (λ c κs. search needs)
+    (λ c κs. search needs)
     (λ c. search needs)
-    (λ c. (rw (c .before .before .put-entry .ensures, c .before .before .before .before .before .entry-offset .ensures, c .before .before .before .before .flag-of .ensures), search needs)))
+    (λ c. (cc, search needs)))
