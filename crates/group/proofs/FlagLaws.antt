@@ -3,7 +3,7 @@
 use mathlib.Core.Path.{_≡_, refl, sym, ap, _∙_}
 use mathlib.Core.Bool.{Bool, true, false, not, cond}
 use mathlib.Core.List.{List, [], _∷_}
-use Prim.Native.Nat.{ℕ, _+_, _*_, _/_, _%_, _<_}
+use Prim.Native.Nat.{ℕ, _+_, _*_, _/_, _%_, _≤_, _<_}
 use native.Mathlib.Omega.{arith}
 use borrow.Author.Needs.{needs}
 use borrow.Author.Tests.{eqb-true}
@@ -14,8 +14,8 @@ use Rattle.group.specs.declared.Kind.{Kind}
 use Rattle.group.specs.declared.Kind.the-variants.{Total, Separator, Middle, Start, Last, Entire, Skip}
 use Rattle.group.specs.declared.Meaning.{Meaning}
 use Rattle.group.specs.declared.Meaning.the-variants.{Known, Unknown}
-use Rattle.group.specs.Flags.{kinds, flagOf, meaningAmong, meaningOf, b4Of, withB4}
-use Rattle.group.specs.Coded.{codeOf, meaningOfCode, listed, flagTable}
+use Rattle.group.specs.Flags.{kinds, kindNumber, flagOf, meaningAmong, meaningOf, b4Of, withB4}
+use Rattle.group.specs.Coded.{codeOf, meaningBy, meaningOfCode, listed, flagTable, Below}
 use Rattle.group.proofs.Computed.{below, listed-at}
 
 -- What holds of each kind with b4 clear and with b4 set, so that a law of the fourteen flags is one computation.
@@ -111,6 +111,34 @@ meaning-of-code (Known k w) =
 pub code-small : (m : Meaning) → codeOf m < 16
 code-small Unknown = search needs
 code-small (Known k w) = each (λ (k : Kind) (w : Bool). codeOf (Known k w) < 16) (search needs) k w
+
+-- A code below 2 is no kind's, and a kind whose number is half of a code is the kind of its meaning.
+pub code-known : (k : Kind) (w : Bool) → 2 ≤ codeOf (Known k w)
+code-known = each (λ (k : Kind) (w : Bool). 2 ≤ codeOf (Known k w)) (search needs)
+
+pub code-unknown : (m : Meaning) → codeOf m < 2 → m ≡ Unknown
+code-unknown Unknown h = refl
+code-unknown (Known k w) h = absurd (omega (arith, code-known k w))
+
+by-number : (k : Kind) (w : Bool) → meaningBy (kindNumber k) w ≡ Known k w
+by-number = each (λ (k : Kind) (w : Bool). meaningBy (kindNumber k) w ≡ Known k w) (search needs)
+
+pub known-of-code : (m : Meaning) (k : Kind) → kindNumber k ≡ codeOf m / 2 → Known k (eqb (codeOf m % 2) 1) ≡ m
+unfolding meaningOfCode
+known-of-code m k e =
+    let w = eqb (codeOf m % 2) 1 in
+    sym (by-number k w) ∙ ap (λ (n : ℕ). meaningBy n w) e ∙ meaning-of-code m
+
+-- What a flag means, by the kind that its code stands for and its bit b4.
+pub meaning-by-code : (flag code : ℕ) (k : Kind) (w : Bool) → Below 16 (codeOf (meaningOf flag)) code → kindNumber k ≡ code / 2 → w ≡ b4Of flag
+    → meaningOf flag ≡ Known k w
+meaning-by-code flag code k w b e f =
+    let m = known-of-code (meaningOf flag) k (e ∙ ap (λ (n : ℕ). n / 2) (b .is)) in
+    let bit = b4-of-meaning flag k (eqb (codeOf (meaningOf flag) % 2) 1) (sym m) in
+    sym m ∙ ap (Known k) (sym bit ∙ sym f)
+
+pub meaning-unknown : (flag code : ℕ) → Below 16 (codeOf (meaningOf flag)) code → code < 2 → meaningOf flag ≡ Unknown
+meaning-unknown flag code b h = code-unknown (meaningOf flag) (rw (b .is) at h)
 
 -- The table has the code of what each flag means.
 pub code-in-table : (flag : ℕ) → flag < 256 → getD (getD flagTable (flag / 16) []) (flag % 16) 0 ≡ codeOf (meaningOf flag)

@@ -9,7 +9,7 @@ pub fn put_bytes(group: &mut [u8], at: usize, data: &[u8])
     requires { ⌜ at + length (now «data») ≤ length (now group) ⌝ }
     ensures { λ _. ⌜ now (group .exit) ≡ put (now (group .entry)) at (now («data» .entry)) ⌝ }
 {
-    let mut i = 0;
+    let mut i: usize = 0;
     while i < data.len() {
         group[at + i] = data[i];
         i += 1;

@@ -1,6 +1,7 @@
 // Flag bytes: from a kind and b4 to its flag, and from a flag to what it means.
 ghost use mathlib.Core.Path.{_≡_};
 ghost use mathlib.Core.Bool.{false};
+ghost use Prim.Native.Nat.{_/_, _≤_, _<_};
 ghost use Rattle.group.specs.Flags.{kindNumber, flagOf, meaningOf, b4Of, withB4};
 ghost use Rattle.group.specs.Coded.{codeOf, flagTable, Below};
 use crate::Kind;
@@ -96,21 +97,30 @@ pub fn code_in(flags: &[[u8; 16]; 16], flag: u8) -> u8
     flags[high][low]
 }
 
+// The kind that a code stands for.
+pub fn kind_of(code: u8) -> Kind
+    requires { ⌜ (2 ≤ code) × (code < 16) ⌝ }
+    ensures { λ r. ⌜ kindNumber r ≡ code / 2 ⌝ }
+{
+    match code / 2 {
+        1 => Kind::Total,
+        2 => Kind::Separator,
+        3 => Kind::Middle,
+        4 => Kind::Start,
+        5 => Kind::Last,
+        6 => Kind::Entire,
+        _ => Kind::Skip,
+    }
+}
+
 // What a flag means.
 pub fn means_in(flags: &[[u8; 16]; 16], flag: u8) -> Meaning
     requires { ⌜ now flags ≡ flagTable ⌝ }
     ensures { λ r. ⌜ r ≡ meaningOf flag ⌝ }
 {
     let code = code_in(flags, flag);
-    let warned = code % 2 == 1;
-    match code / 2 {
-        1 => Meaning::Known(Kind::Total, warned),
-        2 => Meaning::Known(Kind::Separator, warned),
-        3 => Meaning::Known(Kind::Middle, warned),
-        4 => Meaning::Known(Kind::Start, warned),
-        5 => Meaning::Known(Kind::Last, warned),
-        6 => Meaning::Known(Kind::Entire, warned),
-        7 => Meaning::Known(Kind::Skip, warned),
-        _ => Meaning::Unknown,
+    if code < 2 {
+        return Meaning::Unknown;
     }
+    Meaning::Known(kind_of(code), code % 2 == 1)
 }

@@ -1,7 +1,7 @@
 // The rules that a reader's and a writer's state share, and what a start refuses.
 ghost use mathlib.Core.Path.{_≡_};
-ghost use Rattle.group.specs.Sizes.{between, sizeKept, numberKept, entriesKept};
-ghost use Rattle.group.specs.State.{nextKept, sumKept, runSound, startRefusal};
+ghost use Rattle.group.specs.Sizes.{between, entriesKept};
+ghost use Rattle.group.specs.State.{sumKept, runSound, startRefusal};
 use crate::Group;
 use crate::Phase;
 
@@ -12,24 +12,6 @@ fn is_between(low: u32, n: u32, high: u32) -> bool
         return false;
     }
     n <= high
-}
-
-fn size_kept(size: u32) -> bool
-    ensures { λ r. ⌜ r ≡ sizeKept size ⌝ }
-{
-    is_between(Group::LEAST_SIZE, size, Group::STANDARD_SIZE)
-}
-
-fn number_kept(number: u32) -> bool
-    ensures { λ r. ⌜ r ≡ numberKept number ⌝ }
-{
-    is_between(1, number, Group::LAST_NUMBER)
-}
-
-fn next_kept(next: u32) -> bool
-    ensures { λ r. ⌜ r ≡ nextKept next ⌝ }
-{
-    is_between(1, next, Group::LAST_NUMBER + 1)
 }
 
 fn sum_kept(phase: Phase, sum: u32) -> bool
@@ -46,10 +28,10 @@ fn sum_kept(phase: Phase, sum: u32) -> bool
 pub fn run_sound(size: u32, next: u32, phase: Phase, sum: u32) -> bool
     ensures { λ r. ⌜ r ≡ runSound size next phase sum ⌝ }
 {
-    if !size_kept(size) {
+    if !is_between(Group::LEAST_SIZE, size, Group::STANDARD_SIZE) {
         return false;
     }
-    if !next_kept(next) {
+    if !is_between(1, next, Group::LAST_NUMBER + 1) {
         return false;
     }
     sum_kept(phase, sum)
@@ -59,10 +41,10 @@ pub fn run_sound(size: u32, next: u32, phase: Phase, sum: u32) -> bool
 pub fn start_refusal(size: u32, first: u32) -> u32
     ensures { λ r. ⌜ r ≡ startRefusal size first ⌝ }
 {
-    if !size_kept(size) {
+    if !is_between(Group::LEAST_SIZE, size, Group::STANDARD_SIZE) {
         return 2;
     }
-    if !number_kept(first) {
+    if !is_between(1, first, Group::LAST_NUMBER) {
         return 3;
     }
     0

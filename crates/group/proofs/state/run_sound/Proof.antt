@@ -11,8 +11,9 @@ run-sound-spec =
     tie.close
     (tie.spec
     (λ c κs. search needs)
-    (λ c. rw (fails (c .before .size-kept .ensures) (c .if1 .taken)))
+    (λ c. rw (fails (c .before .is-between .ensures) (c .if1 .taken)))
+    (λ c. search needs)
     (λ c κs. search needs)
-    (λ c. rw (holds (c .before .before .before .size-kept .ensures) (c .before .before .if1 .left), fails (c .before .next-kept .ensures) (c .if2 .taken)))
+    (λ c. rw (holds (c .before .before .before .is-between .ensures) (c .before .before .if1 .left), fails (c .before .is-between2 .ensures) (c .if2 .taken)))
     (λ c κs. search needs)
-    (λ c. rw (holds (c .before .before .before .before .size-kept .ensures) (c .before .before .before .if1 .left), holds (c .before .before .next-kept .ensures) (c .before .if2 .left)) (c .sum-kept .ensures)))
+    (λ c. rw (holds (c .before .before .before .before .is-between .ensures) (c .before .before .before .if1 .left), holds (c .before .before .is-between2 .ensures) (c .before .if2 .left)) (c .sum-kept .ensures)))

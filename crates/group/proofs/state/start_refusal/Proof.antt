@@ -11,7 +11,7 @@ start-refusal-spec =
     tie.close
     (tie.spec
     (λ c κs. search needs)
-    (λ c. rw (fails (c .before .size-kept .ensures) (c .if1 .taken)))
+    (λ c. rw (fails (c .before .is-between .ensures) (c .if1 .taken)))
     (λ c κs. search needs)
-    (λ c. rw (holds (c .before .before .before .size-kept .ensures) (c .before .before .if1 .left), fails (c .before .number-kept .ensures) (c .if2 .taken)))
-    (λ c. rw (holds (c .before .before .before .size-kept .ensures) (c .before .before .if1 .left), holds (c .before .number-kept .ensures) (c .if2 .left))))
+    (λ c. rw (holds (c .before .before .before .is-between .ensures) (c .before .before .if1 .left), fails (c .before .is-between2 .ensures) (c .if2 .taken)))
+    (λ c. rw (holds (c .before .before .before .is-between .ensures) (c .before .before .if1 .left), holds (c .before .is-between2 .ensures) (c .if2 .left))))

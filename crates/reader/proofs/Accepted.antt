@@ -1,0 +1,116 @@
+-- What the tests before a scan tell, what each way of a read answers, and what acceptance implies.
+-- Assumes nothing.
+use mathlib.Core.Path.{_≡_, refl, sym, ap, _∙_}
+use mathlib.Core.Bool.{Bool, true, false, cond, not, _&&_}
+use mathlib.Core.List.{List}
+use Prim.Native.Nat.{ℕ, _+_, _*_, _-_, _≤_, _<_}
+use native.Mathlib.Omega.{arith}
+use borrow.Author.Tests.{eq-eqb, ne-eqb, eqb-true, eqb-false, le-leb, leb-true, not-false}
+use lib.Dec.{eqb, leb}
+use lib.ListN.{length}
+use Rattle.group.specs.declared.Phase.{Phase}
+use Rattle.group.specs.declared.Phase.the-variants as phase
+use Rattle.group.specs.Sizes.{lastNumber, informationLength, entryLength, entriesKept, entryOffset}
+use Rattle.group.specs.Entries.{entriesBelow}
+use Rattle.group.proofs.Tests.{both, passed}
+use Rattle.group.proofs.StateLaws.{Run, run-of-sound, sound-of-run, sum-small}
+use Rattle.reader.specs.declared.Reader.{Reader}
+use Rattle.reader.specs.declared.Cursor.{Cursor}
+use Rattle.reader.specs.declared.ScanEnd.{ScanEnd}
+use Rattle.reader.specs.declared.ScanEnd.the-variants as scanned
+use Rattle.reader.specs.declared.ReadAnswer.{ReadAnswer}
+use Rattle.reader.specs.declared.ReadAnswer.the-variants as answer
+use Rattle.reader.specs.Scan.{scan}
+use Rattle.reader.specs.Answer.{sound, lengthKept, nextIs, rowsFit, readRefusal, opening, closing, groupScan, answered, readCall}
+use Rattle.reader.specs.Bounds.{Cut, Bounded, Within}
+use Rattle.reader.proofs.Scans.{within}
+
+-- No refusal before the scan, as facts on numbers.
+pub record Ready (s : Reader) (size number n room : ℕ) : Type 0 where
+  pub run : Run (s .size) (s .next) (s .phase) (s .sum)
+  pub long : size ≡ s .size
+  pub next : number ≡ s .next
+  pub numbered : number ≤ 65535
+  pub some : 1 ≤ n
+  pub fits : 32 + 4 * n ≤ s .size
+  pub rows : 3 * n ≤ room
+
+module _ (s : Reader) (size number n room : ℕ) where
+  pub ready : readRefusal s size number n room ≡ 0 → Ready s size number n room
+  unfolding readRefusal
+  ready e =
+      let a = passed (not (sound s)) 0 e in
+      let b = passed (not (lengthKept s size)) 3 (a .1) in
+      let c = passed (not (nextIs s number)) 4 (b .1) in
+      let d = passed (not (entriesKept (s .size) n)) 5 (c .1) in
+      let f = passed (not (rowsFit n room)) 6 (d .1) in
+      let number-is = both (eqb number (s .next)) (leb number lastNumber) (not-false _ (c .0)) in
+      let entries = both (leb 1 n) (leb (informationLength + entryLength * n) (s .size)) (not-false _ (d .0)) in
+      record {
+        run = run-of-sound _ _ _ _ (not-false _ (a .0));
+        long = eqb-true size (s .size) (not-false _ (b .0));
+        next = eqb-true number (s .next) (number-is .0);
+        numbered = leb-true number lastNumber (number-is .1);
+        some = leb-true 1 n (entries .0);
+        fits = leb-true (informationLength + entryLength * n) (s .size) (entries .1);
+        rows = leb-true (3 * n) room (not-false _ (f .0));
+      }
+
+  pub not-refused : Ready s size number n room → readRefusal s size number n room ≡ 0
+  unfolding readRefusal
+  not-refused r =
+      rw (
+        sound-of-run _ _ _ _ (r .run),
+        eq-eqb size (s .size) (r .long),
+        eq-eqb number (s .next) (r .next),
+        le-leb number 65535 (r .numbered),
+        le-leb 1 n (r .some),
+        le-leb (32 + 4 * n) (s .size) (r .fits),
+        le-leb (3 * n) room (r .rows),
+      )
+
+-- How the table is cut where nothing is refused before the scan, and how small the scan begins.
+pub cut : {s : Reader} {group : List ℕ} {number n room : ℕ} → Ready s (length group) number n room → Cut group (s .size) n
+cut r = record { long = r .long; room = r .fits; some = r .some; most = r .run .most }
+
+pub begins : {s : Reader} {size number n room : ℕ} → Ready s size number n room → Bounded (entryOffset (s .size) n) (opening s)
+begins {s} r = record { sum = sum-small (s .phase) (s .sum) (r .run .kept); reached = omega arith }
+
+-- What a read answers, by its refusal and its scan.
+module _ (s : Reader) (group : List ℕ) (number n room : ℕ) where
+  pub read-refused : (r : ℕ) → r ≡ readRefusal s (length group) number n room → (r ≡ 0 → ⊥) → answer.Refused s r 0 ≡ readCall s group number n room
+  unfolding readCall
+  read-refused r e h = rw (← e, ne-eqb r 0 h)
+
+  pub read-scanned : readRefusal s (length group) number n room ≡ 0 → (end : ScanEnd) → groupScan s group n ≡ end → answered s end ≡ readCall s group number n room
+  unfolding readCall
+  read-scanned e end f = rw (e, f)
+
+-- An accepted read: nothing was refused before the scan, the scan reached its end, and the state is what it left.
+pub record Passed (s t : Reader) (group : List ℕ) (number n room : ℕ) : Type 0 where
+  pub ready : Ready s (length group) number n room
+  pub end : Cursor
+  pub reached : groupScan s group n ≡ scanned.Reached end
+  pub left : t ≡ closing s end
+
+module _ (s t : Reader) (group : List ℕ) (number n room : ℕ) where
+  pub accepted : readCall s group number n room ≡ answer.Accepted t → Passed s t group number n room
+  unfolding readCall
+  accepted e = by (eqb (readRefusal s (length group) number n room) 0) refl (groupScan s group n) refl e
+    where
+      by : (b : Bool) → eqb (readRefusal s (length group) number n room) 0 ≡ b → (o : ScanEnd) → groupScan s group n ≡ o
+          → cond b (answered s o) (answer.Refused s (readRefusal s (length group) number n room) 0) ≡ answer.Accepted t → Passed s t group number n room
+      by false x o y h = let z : _≡_ {A = ℕ} 0 1 = cc in absurd (omega arith)
+      by true x (scanned.Refused fault place c) y h = let z : _≡_ {A = ℕ} 0 1 = cc in absurd (omega arith)
+      by true x (scanned.Reached c) y h =
+          record { ready = ready s (length group) number n room (eqb-true _ 0 x); end = c; reached = y; left = cc }
+
+  pub accepts : Passed s t group number n room → readCall s group number n room ≡ answer.Accepted t
+  accepts p =
+      sym (read-scanned s group number n room (not-refused s (length group) number n room (p .ready)) (scanned.Reached (p .end)) (p .reached))
+      ∙ ap answer.Accepted (sym (p .left))
+
+  -- Data within its limit.
+  pub data-within : readCall s group number n room ≡ answer.Accepted t → Within (entryOffset (s .size) n) 0 (entriesBelow group (s .size - informationLength) n)
+  unfolding groupScan
+  data-within e = let p = accepted e in within _ _ _ 1 (opening s) (p .end) (begins (p .ready)) (p .reached)

@@ -1,0 +1,38 @@
+-- `Reader::judge_in` meets its contract: the refusal before the scan, or what the scan gives. Assumes nothing.
+use borrow.Author.Needs.{needs}
+use mathlib.Core.Path.{_≡_, sym, ap, _∙_}
+use native.Mathlib.Omega.{arith}
+use lib.ListN.{length}
+use Rattle.reader.specs.declared.ScanEnd.{ScanEnd}
+use Rattle.reader.specs.declared.ReadAnswer.the-variants as answer
+use Rattle.reader.specs.Scan.{scan}
+use Rattle.reader.specs.Answer.{groupScan, answered, readCall}
+use Rattle.reader.proofs.Accepted.{Ready, ready, cut, begins, read-refused, read-scanned}
+use Rattle.reader.proofs.Reader.judge_in.Statement.{statement}
+use Rattle.reader.proofs.Reader.judge_in.Tie as tie
+
+-- Nothing is refused before the scan.
+open-to : (c : tie.Else1) → Ready (c .before .before .before .args .self) (length (c .before .before .before .args .group .now)) (c .before .before .before .args .number) (c .before .before .before .args .entries) (c .before .before .before .args .room)
+open-to c = ready _ _ _ _ _ (sym (c .before .refusal .ensures) ∙ c .if1 .left)
+
+-- What the scan gives is the whole group's scan.
+scanned : (c : tie.After-scan-entries) (end : ScanEnd) → c .scan-entries .result ≡ end
+    → answered (c .before .before .before .before .before .args .self) end ≡ readCall (c .before .before .before .before .before .args .self) (c .before .before .before .before .before .args .group .now) (c .before .before .before .before .before .args .number) (c .before .before .before .before .before .args .entries) (c .before .before .before .before .before .args .room)
+unfolding groupScan
+scanned c end e =
+    read-scanned _ _ _ _ _ (sym (c .before .before .before .refusal .ensures) ∙ c .before .before .if1 .left) end
+    (ap (scan _ _ _ 1) (sym (c .before .opening .ensures)) ∙ sym (c .scan-entries .ensures) ∙ e)
+
+pub judge-in-spec : {M : Type 1} → statement M
+judge-in-spec =
+    tie.close
+    (tie.spec
+    (λ c κs. search needs)
+    (λ c. read-refused _ _ _ _ _ _ (c .before .refusal .ensures) (c .if1 .taken))
+    (λ c κs. search needs)
+    (λ c κs. let r = open-to (c .before) in (c .before .before .before .before .pre, (cut r, rw (c .opening .ensures) (begins r))))
+    (λ c. search needs)
+    (λ c. search needs)
+    (λ c κs. let r = open-to (c .before .before .before .before .before) in omega (arith, r .next, r .numbered))
+    (λ c. scanned (c .before .before .before) _ (c .before .fault .given .1))
+    (λ c. ap answer.Accepted (c .closing .ensures) ∙ scanned (c .before .before .before .before) _ (c .before .before .cursor .given .1)))

@@ -1,0 +1,32 @@
+-- `Reader::read` meets its contract: the judgement, and the rows where it accepts. Assumes nothing.
+use borrow.Author.Needs.{needs}
+use mathlib.Core.Path.{_≡_, sym, _∙_}
+use Rattle.reader.specs.declared.ReadAnswer.the-variants as answer
+use Rattle.reader.specs.Answer.{groupRows}
+use Rattle.reader.proofs.Accepted.{accepted, cut, data-within}
+use Rattle.reader.proofs.Reader.read.Statement.{statement}
+use Rattle.reader.proofs.Reader.read.Tie as tie
+
+fill-requires : tie.Need-fill-requires
+fill-requires c κs =
+    let e = sym (c .before .before .before .before .judge-in .ensures) ∙ c .before .before .enum-told .given .1 in
+    let r = accepted _ _ _ _ _ _ e .ready in
+    (c .before .before .before .before .before .before .table .ensures, (cut r, (data-within _ _ _ _ _ _ e, r .rows)))
+
+returns : tie.Need-returns
+unfolding groupRows
+returns c =
+    (c .before .before .before .before .before .before .before .judge-in .ensures, rw (c .before .before .before .before .before .enum-told .given .1) (c .before .before .fill .ensures))
+
+pub read-spec : {M : Type 1} → statement M
+read-spec =
+    tie.close
+    (tie.spec
+    (λ c κs. search needs)
+    (λ c κs. c .before .table .ensures)
+    (λ c. search needs)
+    fill-requires
+    (λ c. search needs)
+    (λ c. search needs)
+    returns
+    (λ c. (c .before .before .judge-in .ensures, rw (c .enum-told2 .given .1))))

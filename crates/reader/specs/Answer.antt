@@ -1,0 +1,109 @@
+-- Document 01, "Reading" and "Numbers the firmware sees": what a start and a read answer, the state and the rows they leave.
+-- Assumes nothing.
+use Prim.Native.Nat.{ℕ, _+_, _*_, _-_}
+use mathlib.Core.List.{List, [], _∷_, _++_}
+use mathlib.Core.Bool.{Bool, false, cond, not, _&&_}
+use lib.Dec.{eqb, leb}
+use lib.ListN.{length}
+use Rattle.group.specs.declared.Phase.the-variants as phase
+use Rattle.group.specs.Sizes.{informationLength, lastNumber, entriesKept, entryOffset}
+use Rattle.group.specs.Store.{put}
+use Rattle.group.specs.Numbers.{bytesOf}
+use Rattle.group.specs.Entries.{entriesBelow}
+use Rattle.group.specs.State.{runSound, startRefusal}
+use Rattle.reader.specs.declared.Reader.{Reader}
+use Rattle.reader.specs.declared.Cursor.{Cursor}
+use Rattle.reader.specs.declared.ScanEnd.{ScanEnd}
+use Rattle.reader.specs.declared.ScanEnd.the-variants as scanned
+use Rattle.reader.specs.declared.ReaderStart.{ReaderStart}
+use Rattle.reader.specs.declared.ReaderStart.the-variants as start
+use Rattle.reader.specs.declared.ReadAnswer.{ReadAnswer}
+use Rattle.reader.specs.declared.ReadAnswer.the-variants as answer
+use Rattle.reader.specs.Rules.{standAt, phaseAfter}
+use Rattle.reader.specs.Scan.{scan, rowsFrom}
+
+-- "A reader starts with L and the first number."
+abbrev pub fresh : ℕ → ℕ → Reader
+fresh size first = record { size = size; next = first; phase = phase.Free; sum = 0 }
+
+-- "Order: start 2, 3." "a refused start gives no state"
+unfoldable pub readerStartCall : ℕ → ℕ → ReaderStart
+readerStartCall size first =
+    cond (eqb (startRefusal size first) 0) (start.Started (fresh size first)) (start.Refused (startRefusal size first))
+
+-- "It is sound if .." (all of it is what both states share).
+abbrev pub sound : Reader → Bool
+sound s = runSound (s .size) (s .next) (s .phase) (s .sum)
+
+-- 4: the group buffer's length is L.
+abbrev pub lengthKept : Reader → ℕ → Bool
+lengthKept s length = eqb length (s .size)
+
+-- 5: the number is the next. "At 65,536 every number is refused."
+abbrev pub nextIs : Reader → ℕ → Bool
+nextIs s number = eqb number (s .next) && leb number lastNumber
+
+-- 7: there are 3n row numbers at least.
+abbrev pub rowsFit : ℕ → ℕ → Bool
+rowsFit n room = leb (3 * n) room
+
+-- "Read 1, 4, 5, 6, 7": the number of a refusal before the scan, 0 if there is none.
+unfoldable pub readRefusal : Reader → ℕ → ℕ → ℕ → ℕ → ℕ
+readRefusal s length number n room =
+    cond (not (sound s)) 1
+    (cond (not (lengthKept s length)) 4
+    (cond (not (nextIs s number)) 5
+    (cond (not (entriesKept (s .size) n)) 6
+    (cond (not (rowsFit n room)) 7 0))))
+
+-- Where a group's scan begins. "Each group begins anew" with b4.
+abbrev pub opening : Reader → Cursor
+opening s = record { stand = standAt (s .phase); warned = false; sum = s .sum; reached = 0 }
+
+-- The state after a group whose scan reached its end.
+abbrev pub closing : Reader → Cursor → Reader
+closing s c = record { size = s .size; next = s .next + 1; phase = phaseAfter (c .stand); sum = c .sum }
+
+-- The scan of a whole group of n entries.
+unfoldable pub groupScan : Reader → List ℕ → ℕ → ScanEnd
+groupScan s group n =
+    scan (s .size) (entryOffset (s .size) n) (entriesBelow group (s .size - informationLength) n) 1 (opening s)
+
+-- "A refusal answers the number, the place and the state as given."
+abbrev pub answered : Reader → ScanEnd → ReadAnswer
+answered s (scanned.Reached c) = answer.Accepted (closing s c)
+answered s (scanned.Refused fault place c) = answer.Refused s fault place
+
+-- What a read answers that is lent rows for `room` numbers.
+unfoldable pub readCall : Reader → List ℕ → ℕ → ℕ → ℕ → ReadAnswer
+readCall s group number n room =
+    cond (eqb (readRefusal s (length group) number n room) 0) (answered s (groupScan s group n))
+    (answer.Refused s (readRefusal s (length group) number n room) 0)
+
+-- The rows of a group of n entries.
+unfoldable pub groupRows : Reader → List ℕ → ℕ → List ℕ
+groupRows s group n = rowsFrom 0 (entriesBelow group (s .size - informationLength) n)
+
+-- "Rows after the n-th are untouched." A refusal leaves all of them.
+abbrev pub rowsLeft : ReadAnswer → List ℕ → List ℕ → List ℕ
+rowsLeft (answer.Accepted t) new old = put old 0 new
+rowsLeft (answer.Refused s number place) new old = old
+
+-- "There .. rows are lent byte slices, each number four bytes, most significant first."
+unfoldable pub inBytes : List ℕ → List ℕ
+inBytes [] = []
+inBytes (n ∷ ns) = bytesOf 4 n ++ inBytes ns
+
+-- The numbers that the firmware sees of each case: refusal, place, outcome, group number, entry count, bytes taken.
+abbrev pub told : ReadAnswer → List ℕ
+told (answer.Accepted t) = 0 ∷ 0 ∷ 0 ∷ 0 ∷ 0 ∷ 0 ∷ []
+told (answer.Refused s number place) = number ∷ place ∷ 0 ∷ 0 ∷ 0 ∷ 0 ∷ []
+
+abbrev pub startTold : ReaderStart → List ℕ
+startTold (start.Started s) = 0 ∷ 0 ∷ 0 ∷ 0 ∷ 0 ∷ 0 ∷ []
+startTold (start.Refused number) = number ∷ 0 ∷ 0 ∷ 0 ∷ 0 ∷ 0 ∷ []
+
+-- The state that a read leaves: "the state as given" where it is refused.
+abbrev pub stateOf : ReadAnswer → Reader
+stateOf (answer.Accepted t) = t
+stateOf (answer.Refused s number place) = s

@@ -1,0 +1,162 @@
+// Reads Basic Groups: document 01, "Which entry may follow" and "Reading". A start, a read with its rows, and a read's
+// judgement without them. None of them requires anything: what may not be is refused with a number and a place.
+mod rows;
+mod rules;
+mod scan;
+
+ghost use mathlib.Core.Path.{_≡_};
+ghost use Prim.Native.Nat.{_/_};
+ghost use lib.ListN.{length};
+ghost use Rattle.group.specs.Coded.{flagTable};
+ghost use Rattle.reader.specs.Answer.{readerStartCall, readRefusal, readCall, groupRows, rowsLeft, inBytes};
+use group::Group;
+use group::Phase;
+
+// A reader's state between groups.
+pub struct Reader {
+    pub size: u32,
+    pub next: u32,
+    pub phase: Phase,
+    pub sum: u32,
+}
+
+pub enum ReaderStart {
+    Started(Reader),
+    Refused(u32),
+}
+
+// The state stands first in each case, so that it lies at one place whichever it is.
+pub enum ReadAnswer {
+    Accepted(Reader),
+    Refused {
+        state: Reader,
+        number: u32,
+        place: u32,
+    },
+}
+
+// Where the scan of a group stands among the records.
+pub enum Stand {
+    Free,
+    AfterPart,
+    Inside,
+    AfterLast,
+    Owed,
+}
+
+// What the scan carries from entry to entry.
+pub struct Cursor {
+    pub stand: Stand,
+    pub warned: bool,
+    pub sum: u32,
+    pub reached: u32,
+}
+
+// How a scan ends: at the table's end, or at the first entry that breaks a rule, with its number, its place and where the
+// scan stood.
+pub enum ScanEnd {
+    Reached(Cursor),
+    Refused(u32, u32, Cursor),
+}
+
+impl Reader {
+    pub fn start(size: u32, first: u32) -> ReaderStart
+        ensures { λ r. ⌜ r ≡ readerStartCall size first ⌝ }
+    {
+        let number = group::state::start_refusal(size, first);
+        if number != 0 {
+            return ReaderStart::Refused(number);
+        }
+        ReaderStart::Started(Reader {
+            size,
+            next: first,
+            phase: Phase::Free,
+            sum: 0,
+        })
+    }
+
+    // The number of a refusal before the scan, 0 if there is none.
+    fn refusal(self, length: usize, number: u32, entries: u32, room: usize) -> u32
+        ensures { λ r. ⌜ r ≡ readRefusal self length number entries room ⌝ }
+    {
+        let phase = self.phase;
+        if !group::state::run_sound(self.size, self.next, phase, self.sum) {
+            return 1;
+        }
+        if length != self.size as usize {
+            return 4;
+        }
+        if number != self.next {
+            return 5;
+        }
+        if number > Group::LAST_NUMBER {
+            return 5;
+        }
+        if !group::state::entries_kept(self.size, entries) {
+            return 6;
+        }
+        if room < 3 * (entries as usize) {
+            return 7;
+        }
+        0
+    }
+
+    // The judgement of a read, with the flag table lent.
+    fn judge_in(
+        self,
+        flags: &[[u8; 16]; 16],
+        group: &[u8],
+        number: u32,
+        entries: u32,
+        room: usize,
+    ) -> ReadAnswer
+        requires { ⌜ now flags ≡ flagTable ⌝ }
+        ensures { λ r. ⌜ r ≡ readCall self (now (group .entry)) number entries room ⌝ }
+    {
+        let refusal = self.refusal(group.len(), number, entries, room);
+        if refusal != 0 {
+            return ReadAnswer::Refused {
+                state: self,
+                number: refusal,
+                place: 0,
+            };
+        }
+        let opening = scan::opening(self);
+        match scan::scan_entries(flags, group, self.size, entries, opening) {
+            ScanEnd::Refused(fault, place, _) => ReadAnswer::Refused {
+                state: self,
+                number: fault,
+                place,
+            },
+            ScanEnd::Reached(cursor) => ReadAnswer::Accepted(scan::closing(self, cursor)),
+        }
+    }
+
+    // What a read answers that is lent rows for `room` numbers. Nothing is written.
+    pub fn judge(self, group: &[u8], number: u32, entries: u32, room: usize) -> ReadAnswer
+        ensures { λ r. ⌜ r ≡ readCall self (now (group .entry)) number entries room ⌝ }
+    {
+        let flags = group::flags::table();
+        self.judge_in(&flags, group, number, entries, room)
+    }
+
+    // Reads one group: the rows are filled once its last entry has passed.
+    pub fn read(self, group: &[u8], number: u32, entries: u32, rows: &mut [u32]) -> ReadAnswer
+        ensures answer { λ r. ⌜ r ≡ readCall self (now (group .entry)) number entries (length (now (rows .entry))) ⌝ }
+        ensures rows { λ r. ⌜ now (rows .exit) ≡ rowsLeft r (groupRows self (now (group .entry)) entries) (now (rows .entry)) ⌝ }
+    {
+        let flags = group::flags::table();
+        let answer = self.judge_in(&flags, group, number, entries, rows.len());
+        match answer {
+            ReadAnswer::Accepted(_) => {
+                rows::fill(&flags, group, self.size, entries, rows);
+                answer
+            }
+            ReadAnswer::Refused {
+                state: _,
+                number: _,
+                place: _,
+            } => answer,
+        }
+    }
+}
