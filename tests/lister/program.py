@@ -1,18 +1,31 @@
 """Running the lister: on a whole input, and on one that is fed no further than each piece of text needs."""
 import os
+import platform
 import select
+import shutil
 import subprocess
 import time
 
 import model
 
-PATIENCE = 10.0
+PATIENCE = 20.0
+
+
+def command(program):
+    """The words that start a program, which is compiled for x86-64: on another processor the kit's emulator runs it."""
+    program = os.path.abspath(program)
+    if platform.machine() == 'x86_64':
+        return [program]
+    kit = os.environ.get('RATTLE_HOME') or os.path.dirname(os.path.dirname(os.path.realpath(shutil.which('rt'))))
+    tools = os.path.join(kit, 'on', platform.machine(), 'toolchain')
+    loader = os.path.join(tools, 'lib', 'ld-linux-x86-64.so.2')
+    return [os.path.join(tools, 'bin', 'qemu-x86_64'), loader, '--library-path', os.path.join(tools, 'lib'), program]
 
 
 def whole(lister, data):
     """What is wrong with what the lister prints of this input, or None."""
     try:
-        done = subprocess.run([lister], input=data, stdout=subprocess.PIPE, timeout=6 * PATIENCE)
+        done = subprocess.run(lister, input=data, stdout=subprocess.PIPE, timeout=3 * PATIENCE)
     except subprocess.TimeoutExpired:
         return 'it does not end'
     if done.returncode < 0:
@@ -29,7 +42,7 @@ def differ(due, got):
 
 def at_each_moment(lister, data, drip=False):
     """The same, where each piece of text must come while the input stays open, and nothing after the last."""
-    with subprocess.Popen([lister], stdin=subprocess.PIPE, stdout=subprocess.PIPE, bufsize=0) as p:
+    with subprocess.Popen(lister, stdin=subprocess.PIPE, stdout=subprocess.PIPE, bufsize=0) as p:
         try:
             return fed(p, data, drip)
         finally:
