@@ -1,5 +1,6 @@
 // Reads Basic Groups: document 01, "Which entry may follow" and "Reading". A start, a read with its rows, and a read's
 // judgement without them. None of them requires anything: what may not be is refused with a number and a place.
+mod row_bytes;
 mod rows;
 mod rules;
 mod scan;
@@ -150,6 +151,26 @@ impl Reader {
         match answer {
             ReadAnswer::Accepted(_) => {
                 rows::fill(&flags, group, self.size, entries, rows);
+                answer
+            }
+            ReadAnswer::Refused {
+                state: _,
+                number: _,
+                place: _,
+            } => answer,
+        }
+    }
+
+    // The same, with rows lent as bytes, twelve an entry, as C lends them.
+    pub fn read_bytes(self, group: &[u8], number: u32, entries: u32, rows: &mut [u8]) -> ReadAnswer
+        ensures answer { λ r. ⌜ r ≡ readCall self (now (group .entry)) number entries (length (now (rows .entry)) / 4) ⌝ }
+        ensures rows { λ r. ⌜ now (rows .exit) ≡ rowsLeft r (inBytes (groupRows self (now (group .entry)) entries)) (now (rows .entry)) ⌝ }
+    {
+        let flags = group::flags::table();
+        let answer = self.judge_in(&flags, group, number, entries, rows.len() / 4);
+        match answer {
+            ReadAnswer::Accepted(_) => {
+                row_bytes::fill_bytes(&flags, group, self.size, entries, rows);
                 answer
             }
             ReadAnswer::Refused {

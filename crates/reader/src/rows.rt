@@ -7,7 +7,6 @@ ghost use Rattle.group.specs.Store.{put};
 ghost use Rattle.group.specs.Entries.{entriesBelow};
 ghost use Rattle.group.specs.Coded.{flagTable};
 ghost use Rattle.reader.specs.Scan.{rowsFrom};
-ghost use Rattle.reader.specs.Answer.{inBytes};
 ghost use Rattle.reader.specs.Bounds.{Cut, Within};
 use crate::rules;
 use group::Group;

@@ -1,7 +1,6 @@
 -- `Reader::read` meets its contract: the judgement, and the rows where it accepts. Assumes nothing.
 use borrow.Author.Needs.{needs}
 use mathlib.Core.Path.{_≡_, sym, _∙_}
-use Rattle.reader.specs.declared.ReadAnswer.the-variants as answer
 use Rattle.reader.specs.Answer.{groupRows}
 use Rattle.reader.proofs.Accepted.{accepted, cut, data-within}
 use Rattle.reader.proofs.Reader.read.Statement.{statement}
@@ -9,14 +8,16 @@ use Rattle.reader.proofs.Reader.read.Tie as tie
 
 fill-requires : tie.Need-fill-requires
 fill-requires c κs =
-    let e = sym (c .before .before .before .before .judge-in .ensures) ∙ c .before .before .enum-told .given .1 in
+    let j = c .before .before .before .before in
+    let e = sym (j .judge-in .ensures) ∙ c .before .before .enum-told .given .1 in
     let r = accepted _ _ _ _ _ _ e .ready in
-    (c .before .before .before .before .before .before .table .ensures, (cut r, (data-within _ _ _ _ _ _ e, r .rows)))
+    (j .before .before .table .ensures, (cut r, (data-within _ _ _ _ _ _ e, r .rows)))
 
 returns : tie.Need-returns
 unfolding groupRows
 returns c =
-    (c .before .before .before .before .before .before .before .judge-in .ensures, rw (c .before .before .before .before .before .enum-told .given .1) (c .before .before .fill .ensures))
+    let f = c .before .before in
+    (f .before .before .before .before .before .judge-in .ensures, rw (f .before .before .before .enum-told .given .1) (f .fill .ensures))
 
 pub read-spec : {M : Type 1} → statement M
 read-spec =

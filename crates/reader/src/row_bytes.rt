@@ -1,0 +1,55 @@
+// The rows of a group whose scan has passed, as bytes: each number four, most significant first.
+ghost use mathlib.Core.Path.{_≡_};
+ghost use mathlib.Core.List.{[], _∷_};
+ghost use Prim.Native.Nat.{_+_, _*_, _-_, _≤_};
+ghost use lib.ListN.{length};
+ghost use Rattle.group.specs.Sizes.{informationLength, entryOffset};
+ghost use Rattle.group.specs.Store.{put};
+ghost use Rattle.group.specs.Entries.{entriesBelow};
+ghost use Rattle.group.specs.Coded.{flagTable};
+ghost use Rattle.reader.specs.Scan.{rowsFrom};
+ghost use Rattle.reader.specs.Answer.{inBytes};
+ghost use Rattle.reader.specs.Bounds.{Cut, Within};
+use crate::rules;
+use group::Group;
+
+// One row as bytes: three numbers of four bytes each.
+fn put_row(rows: &mut [u8], at: usize, kind: u32, reached: u32, count: u32)
+    requires { ⌜ at + 12 ≤ length (now rows) ⌝ }
+    ensures { λ _. ⌜ now (rows .exit) ≡ put (now (rows .entry)) at (inBytes (kind ∷ reached ∷ count ∷ [])) ⌝ }
+{
+    group::numbers::put_number(rows, at, kind);
+    group::numbers::put_number(rows, at + 4, reached);
+    group::numbers::put_number(rows, at + 8, count);
+}
+
+// The same numbers as bytes, twelve an entry.
+pub(crate) fn fill_bytes(
+    flags: &[[u8; 16]; 16],
+    group: &[u8],
+    size: u32,
+    entries: u32,
+    rows: &mut [u8],
+)
+    requires { ⌜ now flags ≡ flagTable ⌝ }
+    requires { ⌜ Cut (now group) size entries ⌝ }
+    requires { ⌜ Within (entryOffset size entries) 0 (entriesBelow (now group) (size - informationLength) entries) ⌝ }
+    requires { ⌜ 12 * entries ≤ length (now rows) ⌝ }
+    ensures { λ _. ⌜ now (rows .exit) ≡ put (now (rows .entry)) 0 (inBytes (rowsFrom 0 (entriesBelow (now (group .entry)) (size - informationLength) entries))) ⌝ }
+{
+    let mut top = size - Group::INFORMATION_LENGTH;
+    let mut left = entries;
+    let mut reached: u32 = 0;
+    let mut i: usize = 0;
+    while 0 < left {
+        top = top - Group::ENTRY_LENGTH;
+        left = left - 1;
+        let entry = group::numbers::entry_at(group, top as usize);
+        let flag = entry.flag;
+        let count = entry.count;
+        let code = group::flags::code_in(flags, flag);
+        put_row(rows, i, (code / 2) as u32, reached, count);
+        reached = rules::reached_by(flag, code, reached, count);
+        i = i + 12;
+    }
+}
