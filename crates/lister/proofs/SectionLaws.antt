@@ -13,7 +13,7 @@ use Rattle.group.proofs.NumberLaws.{four-at}
 use Rattle.lister.specs.declared.sections.Sections.{Sections}
 use Rattle.lister.specs.declared.sections.Sections.the-variants.{Next, Bad, Whole}
 use Rattle.lister.specs.declared.sections.Pair.{Pair}
-use Rattle.lister.specs.Sections.{section, pairAt, InRange, Within, Ahead}
+use Rattle.lister.specs.Sections.{section, pairAt, InRange, Found, Within, Ahead}
 
 -- A section is short, out of range, or kept.
 pub short : (s : List ℕ) (to : ℕ) (b : Bool) (rest : Sections) → length s < to → Next to ≡ section s to b rest
@@ -35,8 +35,8 @@ next-ahead have to r h e = rw e at h
 pub whole-in-range : (have size groups : ℕ) (r : Sections) → Ahead have r → r ≡ Whole size groups → InRange size groups
 whole-in-range have size groups r h e = rw e at h
 
-pub within-in-range : (size groups : ℕ) (r : Sections) → Within r → r ≡ Whole size groups → InRange size groups
-within-in-range size groups r h e = rw e at h
+pub within-found : (s : List ℕ) (size groups : ℕ) (r : Sections) → Within s r → r ≡ Whole size groups → Found size groups s
+within-found s size groups r h e = rw e at h
 
 -- Sizes in range multiply without wrapping.
 pub images-fit : (size groups : ℕ) → size ≤ 4096 → groups ≤ 1024 → groups * size < 4294967296

@@ -14,13 +14,22 @@ ghost use Prim.Native.Nat.{_+_, _*_, _≤_};
 ghost use lib.ListN.{length};
 ghost use Rattle.lister.specs.Sections.{Within};
 
+// The longest sections: 16 bytes, and a pair for each of 1,024 groups.
+const SECTIONS_LENGTH: usize = 4112;
+
+// Three numbers for each entry of a group of 4,096 bytes that has the most, 1,016.
+const ROW_NUMBERS: usize = 3048;
+
+// Room for the lines of such a group: 36 bytes at most for its own, 32 at most for each row's.
+const LINES_LENGTH: usize = 32768;
+
 // How the listing of a group leaves the run: it goes on, or all is said.
 enum Listed {
     On(Reader),
     Stopped,
 }
 
-// Fills all of `bytes` from the input. False where the input ends before.
+// Fills all of `bytes` from the input, and no more is taken from it. False where the input ends before.
 fn read_whole(bytes: &mut [u8]) -> bool {
     io::read_full(STDIN_FILENO, bytes) == bytes.len()
 }
@@ -52,14 +61,14 @@ fn say_end(phase: Phase, sum: u32) {
 fn say_group(number: u32, entries: u32, rows: &[u32])
     requires { ⌜ (3 * entries ≤ length (now rows)) × (entries ≤ 1016) ⌝ }
 {
-    let mut lines = [0u8; 32768];
+    let mut lines = [0u8; LINES_LENGTH];
     let length = text::add_group(&mut lines, 0, number, entries, rows);
     io::write_all(STDOUT_FILENO, &lines[..length]);
 }
 
 // Judges a group and prints its lines, or its refusal.
 fn tell_group(reader: Reader, image: &[u8], number: u32, entries: u32) -> Listed {
-    let mut rows = [0u32; 3048];
+    let mut rows = [0u32; ROW_NUMBERS];
     match reader.read(image, number, entries, &mut rows) {
         ReadAnswer::Accepted(next) => {
             say_group(number, entries, &rows);
@@ -134,7 +143,7 @@ fn list_run(size: u32, groups: u32, bytes: &[u8])
 // Reads section after section as far as they are in range, and says what they are where that ends.
 fn read_sections(bytes: &mut [u8]) -> Sections
     requires { ⌜ 4112 ≤ length (now bytes) ⌝ }
-    ensures { λ r. ⌜ Within r ⌝ }
+    ensures { λ r. ⌜ Within (now (bytes .exit)) r ⌝ }
 {
     let mut have = 0;
     loop {
@@ -156,7 +165,7 @@ fn read_sections(bytes: &mut [u8]) -> Sections
 }
 
 fn main() {
-    let mut bytes = [0u8; 4112];
+    let mut bytes = [0u8; SECTIONS_LENGTH];
     match read_sections(&mut bytes) {
         Sections::Whole { size, groups } => list_run(size, groups, &bytes),
         Sections::Next(_) => say_bad(),

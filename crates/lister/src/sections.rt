@@ -4,7 +4,7 @@ ghost use Prim.Native.Nat.{_+_, _*_, _≤_};
 ghost use lib.ListN.{length};
 ghost use mathlib.Core.Bool.{true};
 ghost use Rattle.group.specs.Sizes.{leastSize, between};
-ghost use Rattle.lister.specs.Sections.{imagesSection, groupsSection, sizeSection, sectionsOf, pairAt, InRange, Ahead};
+ghost use Rattle.lister.specs.Sections.{largestSize, imagesSection, groupsSection, sizeSection, sectionsOf, pairAt, InRange, Ahead};
 use group::Group;
 use group::numbers::number_at;
 
@@ -55,7 +55,7 @@ fn images_section(bytes: &[u8], size: u32, groups: u32) -> Sections
 
 // From the second count on: "4-byte count G (1 to 1,024)".
 fn groups_section(bytes: &[u8], size: u32) -> Sections
-    requires { ⌜ between leastSize size 4096 ≡ true ⌝ }
+    requires { ⌜ between leastSize size largestSize ≡ true ⌝ }
     ensures { λ r. ⌜ (r ≡ groupsSection (now (bytes .entry)) size) × Ahead (length (now (bytes .entry))) r ⌝ }
 {
     if bytes.len() < 12 {

@@ -46,4 +46,11 @@ read-sections-spec =
     (λ c. tt)
     (λ c. search needs)
     (λ c. c .before .before .before .before .before .loop .inv .1)
-    (λ c. whole-in-range _ _ _ _ (c .before .before .before .sections-of .ensures .1) (c .before .size .given .1)))
+    (λ c.
+    let of = c .before .before .before .sections-of in
+    let given = c .before .size .given .1 in
+    record {
+      to = c .before .before .before .before .before .loop .have;
+      whole = sym (of .ensures .0) ∙ given;
+      range = whole-in-range _ _ _ _ (of .ensures .1) given;
+    }))
