@@ -1,0 +1,29 @@
+-- `main` goes on with sections that are in range. Assumes nothing.
+use borrow.Author.Needs.{needs}
+use native.Mathlib.Omega.{arith}
+use Rattle.lister.proofs.SectionLaws.{within-found}
+use Rattle.lister.proofs.main.Statement.{statement}
+use Rattle.lister.proofs.main.Tie as tie
+
+list-run-requires : tie.Need-list-run-requires
+list-run-requires c κs =
+    let read = c .before .before .before .before .before .read-sections in
+    let found = within-found _ _ _ _ (read .ensures) (c .before .before .size .given .1) in
+    (found .range .0, (found .range .1 .0, omega (arith, found .range .1 .1, read .kept .0)))
+
+pub main-spec : {M : Type 1} → statement M
+main-spec =
+    tie.close
+    (tie.spec
+    (λ c. search needs)
+    (λ c κs. search needs)
+    (λ c. search needs)
+    (λ c. search needs)
+    list-run-requires
+    (λ c. search needs)
+    (λ c κs. search needs)
+    (λ c. search needs)
+    (λ c κs. search needs)
+    (λ c. search needs)
+    (λ c. search needs)
+    (λ c. search needs))

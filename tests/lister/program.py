@@ -1,0 +1,95 @@
+"""Running the lister: on a whole input, and on one that is fed no further than each piece of text needs."""
+import os
+import platform
+import select
+import shutil
+import subprocess
+import time
+
+import model
+
+PATIENCE = 20.0
+
+
+def command(program):
+    """The words that start a program, which is compiled for x86-64: on another processor the kit's emulator runs it."""
+    program = os.path.abspath(program)
+    if platform.machine() == 'x86_64':
+        return [program]
+    kit = os.environ.get('RATTLE_HOME') or os.path.dirname(os.path.dirname(os.path.realpath(shutil.which('rt'))))
+    tools = os.path.join(kit, 'on', platform.machine(), 'toolchain')
+    loader = os.path.join(tools, 'lib', 'ld-linux-x86-64.so.2')
+    return [os.path.join(tools, 'bin', 'qemu-x86_64'), loader, '--library-path', os.path.join(tools, 'lib'), program]
+
+
+def whole(lister, data):
+    """What is wrong with what the lister prints of this input, or None."""
+    try:
+        done = subprocess.run(lister, input=data, stdout=subprocess.PIPE, timeout=3 * PATIENCE)
+    except subprocess.TimeoutExpired:
+        return 'it does not end'
+    if done.returncode < 0:
+        return f'it died by signal {-done.returncode}'
+    return differ(model.listing(data), done.stdout)
+
+
+def differ(due, got):
+    if due == got:
+        return None
+    at = next((i for i, (a, b) in enumerate(zip(due, got)) if a != b), min(len(due), len(got)))
+    return f'at byte {at}: due {due[at:at + 60]!r}, printed {got[at:at + 60]!r}'
+
+
+def at_each_moment(lister, data, drip=False):
+    """The same, where each piece of text must come while the input stays open, and nothing after the last."""
+    with subprocess.Popen(lister, stdin=subprocess.PIPE, stdout=subprocess.PIPE, bufsize=0) as p:
+        try:
+            return fed(p, data, drip)
+        finally:
+            if p.poll() is None:
+                p.kill()
+
+
+def fed(p, data, drip):
+    sent = 0
+    for taken, ended, text in model.moments(data):
+        feed(p, data[sent:taken], drip)
+        sent = taken
+        if ended:
+            p.stdin.close()
+        wrong = differ(text, printed(p, len(text)))
+        if wrong:
+            return f'with {taken} bytes of input, ' + wrong
+    more = printed(p, 1)
+    if more:
+        return f'it prints on: {more!r}'
+    try:
+        status = p.wait(PATIENCE)
+    except subprocess.TimeoutExpired:
+        return 'it does not stop while its input stays open'
+    return f'it died by signal {-status}' if status < 0 else None
+
+
+def feed(p, data, drip):
+    """All of data, or as much as a lister that stops early takes; in drips, so that single reads come up short."""
+    try:
+        for i in range(0, len(data), 1 if drip else max(1, len(data))):
+            p.stdin.write(data[i:i + 1] if drip else data)
+            if drip:
+                time.sleep(0.0005)
+    except BrokenPipeError:
+        pass
+
+
+def printed(p, n):
+    """n bytes of what it prints, or fewer where it ends or falls silent."""
+    got, until = b'', time.monotonic() + PATIENCE
+    while len(got) < n and time.monotonic() < until:
+        ready, _, _ = select.select([p.stdout], [], [], max(0.0, until - time.monotonic()))
+        if not ready:
+            break
+        some = os.read(p.stdout.fileno(), n - len(got))
+        if not some:
+            break
+        got += some
+    return got
