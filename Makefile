@@ -1,16 +1,14 @@
 # `make` proves every crate, builds what there is into target/ and shows the main job; `make test` is the gate.
-.PHONY: all test prove clean
+.PHONY: all test clean
 
-all: prove
-	@echo "Proved: the format of a Basic Group (crates/group). The library is built on it."
-
-prove:
+all:
 	rt check
+	@echo
+	@echo "The lister reads case A of the bench table:"
+	@tests/lister/show target/bin/lister crates/lister/stdin
 
-# The last line of the gate is rt ci's own 'N passed, M failed'.
 test:
-	rt fmt --check
-	rt ci
+	tests/gate
 
 clean:
 	rm -rf target
