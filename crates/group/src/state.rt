@@ -5,7 +5,8 @@ ghost use Rattle.group.specs.State.{sumKept, runSound, startRefusal};
 use crate::Group;
 use crate::Phase;
 
-fn is_between(low: u32, n: u32, high: u32) -> bool
+// A number from low to high, both with it.
+pub fn is_between(low: u32, n: u32, high: u32) -> bool
     ensures { λ r. ⌜ r ≡ between low n high ⌝ }
 {
     if n < low {

@@ -1,6 +1,7 @@
 // The rules of one entry, each as a number or a test.
 ghost use mathlib.Core.Path.{_≡_};
 ghost use Prim.Native.Nat.{_+_, _≤_, _<_};
+ghost use Rattle.group.specs.Sizes.{standardSize, longestRecord};
 ghost use Rattle.group.specs.Flags.{meaningOf};
 ghost use Rattle.group.specs.Coded.{codeOf, Below};
 ghost use Rattle.reader.specs.Rules.{mayFollow, isSkip, holdsData, standAfter, sumAfter, reachedAfter, b4Kept, partFault, countFault, followKept, dataFault, entryFault};
@@ -82,7 +83,7 @@ fn part_fault(count: u32, parts: u32, most: u32) -> u32
 
 // 11, at each kind.
 fn count_fault(kind: Kind, sum: u32, count: u32) -> u32
-    requires { ⌜ (sum ≤ 16777215) × (count ≤ 16777215) ⌝ }
+    requires { ⌜ (sum ≤ longestRecord) × (count ≤ longestRecord) ⌝ }
     ensures { λ r. ⌜ r ≡ countFault kind sum count ⌝ }
 {
     match kind {
@@ -121,7 +122,7 @@ fn holds_data(kind: Kind) -> bool
 }
 
 fn reached_after(kind: Kind, reached: u32, count: u32) -> u32
-    requires { ⌜ (reached ≤ 16777215) × (count ≤ 16777215) ⌝ }
+    requires { ⌜ (reached ≤ longestRecord) × (count ≤ longestRecord) ⌝ }
     ensures { λ r. ⌜ r ≡ reachedAfter kind reached count ⌝ }
 {
     if holds_data(kind) {
@@ -146,7 +147,7 @@ fn stand_after(stand: Stand, kind: Kind) -> Stand
 }
 
 fn sum_after(kind: Kind, sum: u32, count: u32) -> u32
-    requires { ⌜ (sum ≤ 16777215) × (count ≤ 16777215) ⌝ }
+    requires { ⌜ (sum ≤ longestRecord) × (count ≤ longestRecord) ⌝ }
     ensures { λ r. ⌜ r ≡ sumAfter kind sum count ⌝ }
 {
     match kind {
@@ -162,7 +163,7 @@ fn sum_after(kind: Kind, sum: u32, count: u32) -> u32
 
 // 12, then 13.
 fn data_fault(size: u32, limit: u32, reached: u32, kind: Kind, count: u32) -> u32
-    requires { ⌜ (reached ≤ limit) × ((limit ≤ size) × ((size ≤ 126632) × (count ≤ 16777215))) ⌝ }
+    requires { ⌜ (reached ≤ limit) × ((limit ≤ size) × ((size ≤ standardSize) × (count ≤ longestRecord))) ⌝ }
     ensures { λ r. ⌜ r ≡ dataFault size limit reached kind count ⌝ }
 {
     if limit < reached_after(kind, reached, count) {
@@ -197,7 +198,7 @@ pub(crate) fn entry_fault(
     count: u32,
 ) -> u32
     requires { ⌜ (now follows ≡ followTable) × Below 16 (codeOf (meaningOf flag)) code ⌝ }
-    requires { ⌜ (Bounded limit here) × ((limit ≤ size) × ((size ≤ 126632) × (count ≤ 16777215))) ⌝ }
+    requires { ⌜ (Bounded limit here) × ((limit ≤ size) × ((size ≤ standardSize) × (count ≤ longestRecord))) ⌝ }
     ensures { λ r. ⌜ r ≡ entryFault size limit last here (meaningOf flag) count ⌝ }
 {
     if code < 2 {
@@ -221,7 +222,7 @@ pub(crate) fn entry_fault(
 // Where the scan stands after an entry.
 pub(crate) fn advance(here: Cursor, flag: u8, code: u8, count: u32) -> Cursor
     requires { ⌜ Below 16 (codeOf (meaningOf flag)) code ⌝ }
-    requires { ⌜ (here .sum ≤ 16777215) × ((here .reached ≤ 16777215) × (count ≤ 16777215)) ⌝ }
+    requires { ⌜ (here .sum ≤ longestRecord) × ((here .reached ≤ longestRecord) × (count ≤ longestRecord)) ⌝ }
     ensures { λ r. ⌜ r ≡ after here (meaningOf flag) count ⌝ }
 {
     if code < 2 {
@@ -240,7 +241,7 @@ pub(crate) fn advance(here: Cursor, flag: u8, code: u8, count: u32) -> Cursor
 // The data offset reached after an entry.
 pub(crate) fn reached_by(flag: u8, code: u8, reached: u32, count: u32) -> u32
     requires { ⌜ Below 16 (codeOf (meaningOf flag)) code ⌝ }
-    requires { ⌜ (reached ≤ 16777215) × (count ≤ 16777215) ⌝ }
+    requires { ⌜ (reached ≤ longestRecord) × (count ≤ longestRecord) ⌝ }
     ensures { λ r. ⌜ r ≡ reachedBy (meaningOf flag) reached count ⌝ }
 {
     if code < 2 {

@@ -1,7 +1,7 @@
 // The scan of a group's table, entry by entry from 1.
 ghost use mathlib.Core.Path.{_≡_};
-ghost use Prim.Native.Nat.{_-_, _<_};
-ghost use Rattle.group.specs.Sizes.{informationLength, entryOffset};
+ghost use Prim.Native.Nat.{_-_, _≤_};
+ghost use Rattle.group.specs.Sizes.{informationLength, lastNumber, entryOffset};
 ghost use Rattle.group.specs.Entries.{entriesBelow};
 ghost use Rattle.group.specs.Coded.{flagTable};
 ghost use Rattle.reader.specs.Rules.{standAt, phaseAfter};
@@ -53,7 +53,7 @@ pub(crate) fn opening(reader: Reader) -> Cursor
 
 // The state after a group whose scan reached its end.
 pub(crate) fn closing(reader: Reader, cursor: Cursor) -> Reader
-    requires { ⌜ reader .next < 65536 ⌝ }
+    requires { ⌜ reader .next ≤ lastNumber ⌝ }
     ensures { λ r. ⌜ r ≡ closing reader cursor ⌝ }
 {
     let stand = cursor.stand;
