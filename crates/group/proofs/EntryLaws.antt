@@ -6,11 +6,13 @@ use Prim.Native.Nat.{ℕ, zero, suc, _+_, _*_, _-_, _/_, _%_, _≤_, _<_}
 use native.Mathlib.Nat.{sub-zero}
 use native.Mathlib.Omega.{arith}
 use lib.ListN.{length, length-append, getD, take, drop}
-use lib.Seq.{getD-append-seam, take-add, drop-cons}
+use lib.Seq.{getD-append-seam, take-add, drop-cons, length-take-le}
 use native.Mathlib.Numerals.{add-one}
 use Rattle.group.specs.declared.Entry.{Entry}
+use Rattle.group.specs.Store.{put}
 use Rattle.group.specs.Numbers.{numberAt, bytesOf, Bytes}
 use Rattle.group.specs.Entries.{entry, entryAt, entryBytes, entriesBelow, tableBytes}
+use Rattle.group.proofs.Stores.{put-split}
 use Rattle.group.proofs.NumberLaws.{length-bytes, count-at, number-after, number-from, number-of-bytes, bytes-of-number, number-small}
 
 -- A count that three bytes hold, and a list of entries whose counts they hold.
@@ -52,6 +54,14 @@ entry-of-bytes pre e post h =
     ∙ number-from 3 (e .flag ∷ []) (bytesOf 3 (e .count) ++ post) 1 refl
     ∙ number-of-bytes 3 (e .count) post h in
     rw (count, getD-append-seam pre (e .flag) (bytesOf 3 (e .count) ++ post) 0)
+
+-- .. and so from the group that it was put into.
+pub entry-put : (old : List ℕ) (at : ℕ) (e : Entry) → at + 4 ≤ length old → e .count < 16777216 → entryAt (put old at (entryBytes e)) at ≡ e
+entry-put old at e fits h =
+    let pre : length (take at old) ≡ at = length-take-le at old (omega arith) in
+    rw (put-split old at (entryBytes e) (omega (arith, length-entry e)), append-assoc)
+    (ap (entryAt (take at old ++ (entryBytes e ++ drop (at + length (entryBytes e)) old))) (sym pre)
+    ∙ entry-of-bytes (take at old) e (drop (at + length (entryBytes e)) old) h)
 
 -- A table that was laid is read back.
 pub entries-of-table : (pre : List ℕ) (es : List Entry) (post : List ℕ) (top : ℕ) → Small es → top ≡ length pre + 4 * length es
