@@ -1,11 +1,10 @@
 -- Adding to a text: one thing after the other, and nothing.
 -- Assumes nothing.
 use Prim.Native.Nat.{ℕ, _+_, _≤_}
-use mathlib.Core.Path.{_≡_, refl, sym}
+use mathlib.Core.Path.{_≡_, sym}
 use mathlib.Core.List.{List, [], _++_}
 use native.Mathlib.Omega.{arith}
-use lib.ListN.{length, length-append}
-use Rattle.group.specs.Store.{put}
+use lib.ListN.{length-append}
 use Rattle.group.proofs.Stores.{put-put, put-none}
 use Rattle.lister.specs.Added.{Added}
 

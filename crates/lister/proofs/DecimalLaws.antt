@@ -1,9 +1,9 @@
 -- The digits that `io::decimal` puts are `decimal`'s, and at most ten for a number of 32 bits.
 -- Assumes nothing.
 use Prim.Native.Nat.{ℕ, zero, suc, _+_, _-_, _*_, _/_, _%_, _^_, _≤_, _<_}
-use mathlib.Core.Path.{_≡_, refl, sym, ap, _∙_}
-use mathlib.Core.Bool.{Bool, true, false, cond}
-use mathlib.Core.List.{List, [], _∷_, _++_}
+use mathlib.Core.Path.{_≡_, refl, sym, _∙_}
+use mathlib.Core.Bool.{Bool, true, false}
+use mathlib.Core.List.{[], _∷_, _++_}
 use native.Mathlib.Nat.{pow-succ', pow-le-pow-right, mod-lt, mod-eq-of-lt, one-le-pow}
 use native.Mathlib.Omega.{arith}
 use lib.Dec.{ltb}

@@ -25,24 +25,30 @@ field n = (32 ∷ []) ++ decimal n
 abbrev pub newline : List ℕ
 newline = 10 ∷ []
 
--- Document 01, "The group", the table's columns "kind" and "name", from kind 0 on, which has none:
--- total, separator, middle, start, last, entire, skip.
+-- Document 01, "The group", the table's columns "kind" and "name", after kind 0, which is none.
 abbrev pub kindNames : List (List ℕ)
 kindNames =
     []
+    -- total
     ∷ (116 ∷ 111 ∷ 116 ∷ 97 ∷ 108 ∷ [])
+    -- separator
     ∷ (115 ∷ 101 ∷ 112 ∷ 97 ∷ 114 ∷ 97 ∷ 116 ∷ 111 ∷ 114 ∷ [])
+    -- middle
     ∷ (109 ∷ 105 ∷ 100 ∷ 100 ∷ 108 ∷ 101 ∷ [])
+    -- start
     ∷ (115 ∷ 116 ∷ 97 ∷ 114 ∷ 116 ∷ [])
+    -- last
     ∷ (108 ∷ 97 ∷ 115 ∷ 116 ∷ [])
+    -- entire
     ∷ (101 ∷ 110 ∷ 116 ∷ 105 ∷ 114 ∷ 101 ∷ [])
+    -- skip
     ∷ (115 ∷ 107 ∷ 105 ∷ 112 ∷ [])
     ∷ []
 
 unfoldable pub kindName : ℕ → List ℕ
 kindName kind = getD kindNames kind []
 
--- free, inside, owed.
+-- The words `free`, `inside`, `owed`.
 unfoldable pub phaseName : Phase → List ℕ
 phaseName Free = 102 ∷ 114 ∷ 101 ∷ 101 ∷ []
 phaseName Inside = 105 ∷ 110 ∷ 115 ∷ 105 ∷ 100 ∷ 101 ∷ []

@@ -1,5 +1,4 @@
 // The lines that are printed, added to a text one after the other. Each function answers where what it added ends.
-ghost use mathlib.Core.Path.{_≡_};
 ghost use Prim.Native.Nat.{_+_, _*_, _≤_};
 ghost use lib.ListN.{length};
 ghost use Rattle.lister.specs.Added.{Added};

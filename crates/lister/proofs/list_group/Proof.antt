@@ -1,6 +1,6 @@
 -- `list_group` lends as much of its buffer as a group has. Assumes nothing.
 use Prim.Native.Nat.{_≤_}
-use mathlib.Core.Path.{_≡_, sym}
+use mathlib.Core.Path.{sym}
 use mathlib.Core.List.{_++_}
 use borrow.Author.Needs.{needs}
 use native.Mathlib.Omega.{arith}

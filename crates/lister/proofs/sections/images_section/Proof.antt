@@ -1,7 +1,7 @@
 -- `images_section` meets its contract: the section's two tests. Assumes nothing.
 use borrow.Author.Needs.{needs}
 use borrow.Author.Tests.{eq-eqb, ne-eqb}
-use mathlib.Core.Path.{_∙_, sym}
+use mathlib.Core.Path.{sym}
 use Rattle.lister.specs.Sections.{imagesSection}
 use Rattle.lister.proofs.SectionLaws.{short, spoilt, kept, images-fit}
 use Rattle.lister.proofs.sections.images_section.Statement.{statement}

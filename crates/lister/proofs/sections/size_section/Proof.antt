@@ -1,9 +1,8 @@
 -- `size_section` meets its contract: the section's two tests. Assumes nothing.
 use borrow.Author.Needs.{needs}
-use mathlib.Core.Path.{_∙_, sym, ap}
-use Prim.Native.Nat.{ℕ}
+use mathlib.Core.Path.{_∙_, sym}
 use Rattle.group.proofs.Tests.{fails, holds}
-use Rattle.lister.specs.Sections.{sizeSection, groupsSection}
+use Rattle.lister.specs.Sections.{sizeSection}
 use Rattle.lister.proofs.SectionLaws.{short, spoilt, kept}
 use Rattle.lister.proofs.sections.size_section.Statement.{statement}
 use Rattle.lister.proofs.sections.size_section.Tie as tie

@@ -1,7 +1,7 @@
 -- `add_number` meets its contract: the digits that `io::decimal` puts are the number's decimal text. Assumes nothing.
 use borrow.Author.Needs.{needs}
 use Prim.Native.Nat.{_≤_}
-use mathlib.Core.Path.{_≡_, sym, _∙_}
+use mathlib.Core.Path.{_∙_}
 use native.Mathlib.Omega.{arith}
 use Rattle.lister.proofs.AddedLaws.{added-as}
 use Rattle.lister.proofs.DecimalLaws.{at-most-ten, decimal-fewest}
