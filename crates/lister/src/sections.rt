@@ -7,6 +7,7 @@ ghost use Rattle.group.specs.Sizes.{leastSize, between};
 ghost use Rattle.lister.specs.Sections.{largestSize, imagesSection, groupsSection, sizeSection, sectionsOf, pairAt, InRange, Ahead};
 use group::Group;
 use group::numbers::number_at;
+use group::state::is_between;
 
 // The largest group that the bench program takes, and the most groups.
 const LARGEST_SIZE: u32 = 4096;
@@ -27,15 +28,6 @@ pub enum Sections {
 pub struct Pair {
     pub number: u32,
     pub entries: u32,
-}
-
-fn is_between(low: u32, n: u32, high: u32) -> bool
-    ensures { λ r. ⌜ r ≡ between low n high ⌝ }
-{
-    if n < low {
-        return false;
-    }
-    n <= high
 }
 
 // From the third count on, which stands after the pairs: "4-byte count G × L".
