@@ -5,3 +5,4 @@ pub mod Layout
 pub mod Accepting
 pub mod Reading
 pub mod Writing
+pub mod BenchTable
