@@ -40,7 +40,7 @@ pub data Walk (to : Stand) (n : ℕ) : Stand → ℕ → List Token → Type 0 w
       mayFollow at Skip ≡ true → Walk to n (standAt (phaseAfter at)) sum ts → Walk to n at sum (groupEnd ∷ ts)
 
 -- A part that keeps its rule has no fault.
-part-fits : (count parts most : ℕ) → 1 ≤ count → parts ≤ most → partFault count parts most ≡ 0
+pub part-fits : (count parts most : ℕ) → 1 ≤ count → parts ≤ most → partFault count parts most ≡ 0
 part-fits count parts most h k = rw (le-leb 1 count h, le-leb parts most k)
 
 -- From sound laid items to a walk.

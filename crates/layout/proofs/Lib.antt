@@ -4,3 +4,4 @@ pub mod Bench
 pub mod Assembled
 pub mod Buffer
 pub mod Held
+pub mod Accounts
