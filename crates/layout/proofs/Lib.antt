@@ -1,2 +1,4 @@
 -- What the theorems over reader and writer are made of, and the theorems.
 pub mod Grammar
+pub mod Decode
+pub mod Assembled
