@@ -2,3 +2,4 @@
 pub mod Grammar
 pub mod Decode
 pub mod Assembled
+pub mod Scanned
