@@ -3,3 +3,7 @@ pub mod Grammar
 pub mod Decode
 pub mod Assembled
 pub mod Scanned
+pub mod Complete
+pub mod OnlyOne
+pub mod Unscanned
+pub mod Sound
