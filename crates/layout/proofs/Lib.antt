@@ -1,7 +1,13 @@
 -- What the theorems over reader and writer are made of, and the theorems.
 pub mod Grammar
-pub mod Bench
+pub mod Decode
 pub mod Assembled
+pub mod Scanned
+pub mod Complete
+pub mod OnlyOne
+pub mod Unscanned
+pub mod Sound
+pub mod Bench
 pub mod Buffer
 pub mod Held
 pub mod Accounts
