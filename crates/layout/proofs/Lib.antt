@@ -11,3 +11,4 @@ pub mod Bench
 pub mod Buffer
 pub mod Held
 pub mod Accounts
+pub mod Returned

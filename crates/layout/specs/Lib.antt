@@ -5,4 +5,5 @@ pub mod Layout
 pub mod Accepting
 pub mod Reading
 pub mod Writing
+pub mod Totals
 pub mod BenchTable
