@@ -41,7 +41,7 @@ walk-end stop f = leap f stop
 walk-end (step g w) f = step g (walk-end w f)
 walk-end (leap h w) f = leap h (walk-end w f)
 
-map-snoc : (ps : List Piece) (p : Piece) → map piece (ps ++ (p ∷ [])) ≡ map piece ps ++ (piece p ∷ [])
+pub map-snoc : (ps : List Piece) (p : Piece) → map piece (ps ++ (p ∷ [])) ≡ map piece ps ++ (piece p ∷ [])
 map-snoc [] p = refl
 map-snoc (q ∷ ps) p = ap {B = List Token} (λ r. piece q ∷ r) (map-snoc ps p)
 
@@ -65,15 +65,15 @@ items-append o (aStart bs ∷ ps) qs = items-append bs ps qs
 items-append o (aLast bs ∷ ps) qs = items-append (o ++ bs) ps qs
 items-append o (anEntire bs ∷ ps) qs = ap {B = List Item} (λ r. recordItem bs ∷ r) (items-append [] ps qs)
 
-open-append : (o : List ℕ) (ps qs : List Piece) → begunAfter o (ps ++ qs) ≡ begunAfter (begunAfter o ps) qs
+pub begun-append : (o : List ℕ) (ps qs : List Piece) → begunAfter o (ps ++ qs) ≡ begunAfter (begunAfter o ps) qs
 unfolding begunAfter
-open-append o [] qs = refl
-open-append o (aTotal n ∷ ps) qs = open-append [] ps qs
-open-append o (aSeparator v ∷ ps) qs = open-append [] ps qs
-open-append o (aMiddle bs ∷ ps) qs = open-append (o ++ bs) ps qs
-open-append o (aStart bs ∷ ps) qs = open-append bs ps qs
-open-append o (aLast bs ∷ ps) qs = open-append (o ++ bs) ps qs
-open-append o (anEntire bs ∷ ps) qs = open-append [] ps qs
+begun-append o [] qs = refl
+begun-append o (aTotal n ∷ ps) qs = begun-append [] ps qs
+begun-append o (aSeparator v ∷ ps) qs = begun-append [] ps qs
+begun-append o (aMiddle bs ∷ ps) qs = begun-append (o ++ bs) ps qs
+begun-append o (aStart bs ∷ ps) qs = begun-append bs ps qs
+begun-append o (aLast bs ∷ ps) qs = begun-append (o ++ bs) ps qs
+begun-append o (anEntire bs ∷ ps) qs = begun-append [] ps qs
 
 run-snoc : {size number : ℕ} {groups : List (List Piece)} {run : List Image} {ps : List Piece} {g : Image} → Run size number groups run →
     g .number ≡ number + length groups → g .number ≤ lastNumber → Pictured size ps g → Run size number (groups ++ (ps ∷ [])) (run ++ (g ∷ []))
@@ -130,7 +130,7 @@ module _ {first sum : ℕ} {at : Stand} {w : Desk} {run : List Image} {finished 
     told-items = rw (← append-assoc (flat (h .groups)) (h .pieces) (p ∷ []), items-append [] (flat (h .groups) ++ h .pieces) (p ∷ []), h .finishes, h .breaks)
 
     told-open : begunAfter [] (flat (h .groups) ++ (h .pieces ++ (p ∷ []))) ≡ begunAfter begun (p ∷ [])
-    told-open = rw (← append-assoc (flat (h .groups)) (h .pieces) (p ∷ []), open-append [] (flat (h .groups) ++ h .pieces) (p ∷ []), h .breaks)
+    told-open = rw (← append-assoc (flat (h .groups)) (h .pieces) (p ∷ []), begun-append [] (flat (h .groups) ++ h .pieces) (p ∷ []), h .breaks)
 
     pub held-entry : dataOf p ≡ [] → span (w .state .filled) (w .state .entries + 1) ≤ w .state .size →
         Held first (standAfter at (kindOf p)) (sumAfter (kindOf p) sum (countOf p)) (layEntry (kindOf p) (countOf p) w) run (finished ++ itemsAfter begun (p ∷ [])) (begunAfter begun (p ∷ []))

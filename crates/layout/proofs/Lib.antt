@@ -12,3 +12,5 @@ pub mod Buffer
 pub mod Held
 pub mod Accounts
 pub mod Returned
+pub mod TotalKept
+pub mod WritingShown

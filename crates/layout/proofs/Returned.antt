@@ -2,12 +2,12 @@
 -- Assumes nothing.
 use Prim.Native.Nat.{ℕ, _+_, _≤_}
 use native.Mathlib.Omega.{arith}
-use mathlib.Core.List.{List, [], _∷_, _++_, map, append-nil}
+use mathlib.Core.List.{List, [], _∷_, _++_, map, append-nil, append-assoc}
 use mathlib.Core.Bool.{Bool, true, false, cond}
 use mathlib.Core.Path.{_≡_, refl, sym, ap, _∙_, subst}
-use lib.ListN.{length}
+use lib.ListN.{length, take-append-drop}
 use lib.Dec.{eqb}
-use borrow.Author.Tests.{eqb-true, eq-eqb}
+use borrow.Author.Tests.{eqb-true}
 use Rattle.group.specs.declared.Phase.{Phase}
 use Rattle.group.specs.declared.Phase.the-variants as phase
 use Rattle.group.specs.Sizes.{leastSize, standardSize, informationLength, sizeKept, numberKept}
@@ -31,12 +31,12 @@ use Rattle.layout.specs.Layout.{Image, Run, Lays}
 use Rattle.layout.specs.Layout.Run.{run-none}
 use Rattle.layout.specs.Accepting.{Accepts, Lent, lentTo}
 use Rattle.layout.specs.Reading.{itemsAfter, begunAfter, itemsRead, begunRead}
-use Rattle.layout.specs.Writing.{Account, blank, noted, AsAsked, imageOf, Wrote}
+use Rattle.layout.specs.Writing.{Account, blank, afterRecord, noted, AsAsked, imageOf, Wrote}
 use Rattle.layout.specs.Writing.Wrote.{begins, goes-on, closes, refused}
 use Rattle.layout.proofs.Assembled.{flat}
 use Rattle.layout.proofs.Grammar.{Walk}
 use Rattle.layout.proofs.Grammar.Walk.{stop}
-use Rattle.layout.proofs.Complete.{complete-to}
+use Rattle.layout.proofs.Complete.{begins-at, complete-to}
 use Rattle.layout.proofs.OnlyOne.{reading-is}
 use Rattle.layout.proofs.Sound.{lays-run}
 use Rattle.layout.proofs.Buffer.{buffered-fresh}
@@ -170,19 +170,16 @@ pub record GivesBack (size first : ℕ) (run : List Image) (lent : List (List �
   pub items : itemsRead run rows ≡ a .finished
   pub begun : begunRead run rows ≡ a .begun
 
-reader-starts : (size first : ℕ) → startRefusal size first ≡ 0 → readerStartCall size first ≡ readerStart.Started (fresh size first)
-unfolding readerStartCall
-reader-starts size first e = rw (eq-eqb (startRefusal size first) 0 e)
-
 -- What the writer closed so far is accepted, with any row buffers long enough, and its reading is the account at the last close.
 pub returned : {size first : ℕ} {w : Desk} {run : List Image} {closed now : Account} {lent : List (List ℕ)} → Wrote size first w run closed now → Lent run lent → GivesBack size first run lent closed
 returned {size} {first} x lent =
+    let (size-kept, number-kept) = started size first (wrote-started x) in
     let l = wrote-lays x in
     let a = complete-to l lent in
     let (items, begun) = reading-is l (a .accepts) in
     record {
       reader = fresh size first;
-      starts = reader-starts size first (wrote-started x);
+      starts = begins-at size first size-kept number-kept;
       rows = a .rows;
       final = a .final;
       accepts = a .accepts;
@@ -190,3 +187,10 @@ returned {size} {first} x lent =
       items = items;
       begun = begun;
     }
+
+-- "The caller offers it again", "The caller offers exactly the rest": a close moves bytes from those asked for to those begun, and
+-- the record in hand stays the one that was first offered.
+pub same-record : (s : Writer) (number entries taken : ℕ) (a : Account)
+    → afterRecord (Closed s number entries taken) a .begun ++ afterRecord (Closed s number entries taken) a .asked ≡ a .begun ++ a .asked
+unfolding afterRecord
+same-record s number entries taken a = rw (append-assoc, take-append-drop)
