@@ -7,3 +7,5 @@ pub mod Complete
 pub mod OnlyOne
 pub mod Unscanned
 pub mod Sound
+pub mod Order
+pub mod Theorems
