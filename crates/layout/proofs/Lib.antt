@@ -9,3 +9,4 @@ pub mod Unscanned
 pub mod Sound
 pub mod Order
 pub mod Theorems
+pub mod Shown
