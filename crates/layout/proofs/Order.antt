@@ -18,6 +18,7 @@ use Rattle.reader.proofs.Accepted.{Ready, Passed, accepted, read-refused}
 use Rattle.layout.specs.Items.{Each}
 use Rattle.layout.specs.Items.Each.{each-none, each-more}
 use Rattle.layout.specs.Layout.{Image}
+use Rattle.layout.specs.Stated.{OutOfOrder}
 use Rattle.layout.specs.Accepting.{Accepts}
 use Rattle.layout.specs.Accepting.Accepts.{accepts-none, accepts-more}
 
@@ -102,3 +103,15 @@ other-number {s} h f long other room =
     let five : 5 ≡ readRefusal s (length (h .bytes)) (h .number) (h .entries) room =
     rw (sound-of-run _ _ _ _ (f .ready .run), eq-eqb (length (h .bytes)) (s .size) long, ne-eqb (h .number) (s .next) other) in
     sym (read-refused s (h .bytes) (h .number) (h .entries) room 5 five (λ z. omega arith))
+
+-- .. so a run that goes on with it, after groups that are accepted, is out of order.
+pub out-of-order : {s state : Reader} {rows : List (List ℕ)} (beginning : List Image) (g h : Image) (rest : List Image) → Accepts s beginning rows state → First state g →
+    length (h .bytes) ≡ state .size → (h .number ≡ state .next → ⊥) → OutOfOrder s beginning h rest
+out-of-order {s} {state} {rows} beginning g h rest a f long other =
+    record {
+      accepted = (rows, (state, a));
+      refused =
+          λ others t o old. subst (λ (y : Reader). readCall y (h .bytes) (h .number) (h .entries) (length old) ≡ answer.Refused y 5 0) (same-state a o) (other-number h f long other (length old));
+      never =
+          λ others t o. let r = split beginning (h ∷ rest) o in other (first-of (r .goes-on) .ready .next ∙ ap (λ (y : Reader). y .next) (same-state (r .begins) a));
+    }
