@@ -1,6 +1,6 @@
 -- A run of groups that picture the pieces of a lawful layout is accepted, whatever row buffers are lent, if they are long enough.
 -- Assumes nothing.
-use Prim.Native.Nat.{ℕ, zero, suc, _+_, _*_, _-_, _≤_, _<_}
+use Prim.Native.Nat.{ℕ, suc, _+_, _*_, _-_, _≤_}
 use native.Mathlib.Omega.{arith}
 use mathlib.Core.List.{List, [], _∷_, _++_, map}
 use mathlib.Core.Bool.{Bool, true, false, cond}
@@ -18,18 +18,16 @@ use Rattle.group.specs.State.{sumKept, startRefusal}
 use Rattle.group.proofs.Tests.{within, is-within}
 use Rattle.reader.specs.declared.Reader.{Reader}
 use Rattle.reader.specs.declared.Stand.{Stand}
-use Rattle.reader.specs.declared.Stand.the-variants.{Free, AfterPart, Inside, AfterLast, Owed}
-use Rattle.reader.specs.declared.Cursor.{Cursor}
-use Rattle.reader.specs.declared.ScanEnd.the-variants.{Reached}
+use Rattle.reader.specs.declared.Stand.the-variants.{Free, Inside, Owed}
 use Rattle.reader.specs.declared.ReaderStart.the-variants as start
 use Rattle.reader.specs.declared.ReadAnswer.the-variants as answer
-use Rattle.reader.specs.Rules.{standAt, phaseAfter}
+use Rattle.reader.specs.Rules.{standAt}
 use Rattle.reader.specs.Answer.{fresh, readerStartCall, opening, closing, groupScan, readCall}
-use Rattle.reader.proofs.Accepted.{Ready, Passed, accepts}
+use Rattle.reader.proofs.Accepted.{Ready, accepts}
 use Rattle.layout.specs.Items.{Item, Tail, Piece, Token, Each, grouped, joined, soFar, wholeOf, SoundTail}
 use Rattle.layout.specs.Items.Each.{each-none, each-more}
 use Rattle.layout.specs.Items.Tail.{noneOpen, brokenInside, brokenOwed}
-use Rattle.layout.specs.Items.SoundTail.{sound-none, sound-inside, sound-owed}
+use Rattle.layout.specs.Items.SoundTail.{sound-inside, sound-owed}
 use Rattle.layout.specs.Items.Token.{piece, groupEnd}
 use Rattle.layout.specs.Layout.{Image, Pictures, Run, Lays, userData, entriesOf}
 use Rattle.layout.specs.Layout.Run.{run-none, run-more}
@@ -39,7 +37,7 @@ use Rattle.layout.specs.Accepting.Accepts.{accepts-none, accepts-more}
 use Rattle.layout.specs.Accepting.Lent.{lent-none, lent-more}
 use Rattle.layout.proofs.Grammar.{Walk, Open, walk-laid, tailPlace, tailSum}
 use Rattle.layout.proofs.Grammar.Walk.{stop, step, leap}
-use Rattle.layout.proofs.Grammar.Open.{o-free, o-start, o-middle, o-inside, o-ended, o-owed}
+use Rattle.layout.proofs.Grammar.Open.{o-free, o-inside, o-owed}
 use Rattle.layout.proofs.Decode.{SmallPiece, adds-up, entries-back}
 use Rattle.layout.proofs.Scanned.{Reaches, scan-pieces}
 

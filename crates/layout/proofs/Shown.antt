@@ -1,10 +1,10 @@
 -- Not vacuous: for each shape of layout, a lawful one and its acceptance, by computation. L is 64, the first number 1.
 -- Assumes nothing.
-use Prim.Native.Nat.{ℕ, zero, suc, _+_, _*_, _-_, _≤_}
+use Prim.Native.Nat.{ℕ, suc, _+_, _*_, _-_, _≤_}
 use native.Mathlib.Omega.{arith}
-use mathlib.Core.List.{List, [], _∷_, _++_, map}
+use mathlib.Core.List.{List, [], _∷_, _++_}
 use mathlib.Core.Bool.{Bool, true, false, _&&_}
-use mathlib.Core.Path.{_≡_, refl, sym, ap, _∙_}
+use mathlib.Core.Path.{_≡_, refl}
 use lib.ListN.{length, length-append, replicate, length-replicate}
 use lib.Dec.{leb, lit≤}
 use borrow.Author.Tests.{leb-true}
@@ -20,11 +20,10 @@ use Rattle.group.specs.State.{runSound, startRefusal}
 use Rattle.group.proofs.EntryLaws.{length-table}
 use Rattle.reader.specs.declared.Reader.{Reader}
 use Rattle.reader.specs.declared.ReaderStart.the-variants as start
-use Rattle.reader.specs.declared.ReadAnswer.the-variants as answer
 use Rattle.reader.specs.Rules.{mayFollow, entryFault}
 use Rattle.reader.specs.Scan.{scan, rowsFrom}
 use Rattle.reader.specs.Answer.{fresh, readerStartCall, readRefusal, readCall, groupScan, groupRows}
-use Rattle.layout.specs.Items.{Item, Laid, Tail, Piece, Each, SoundLaid, SoundTail, Part, items, soFar, tokens, tailTokens, middles, lateBy, grouped, joined, wholeOf}
+use Rattle.layout.specs.Items.{Laid, Tail, Piece, Each, SoundLaid, SoundTail, items, soFar, tokens, tailTokens, middles, lateBy, grouped, joined, wholeOf}
 use Rattle.layout.specs.Items.Each.{each-none, each-more}
 use Rattle.layout.specs.Items.Laid.{laidEntire, laidSpanned, laidSeparator, endedEarly}
 use Rattle.layout.specs.Items.Tail.{noneOpen, brokenInside, brokenOwed}
