@@ -1,9 +1,9 @@
 -- The entries read from a group that pictures pieces are the entries of those pieces, and the group's rows give the pieces back.
 -- Assumes nothing.
-use Prim.Native.Nat.{ℕ, zero, suc, _+_, _*_, _-_, _≤_, _<_}
+use Prim.Native.Nat.{ℕ, suc, _+_, _*_, _-_, _≤_}
 use native.Mathlib.Omega.{arith}
 use mathlib.Core.List.{List, [], _∷_, _++_, append-assoc}
-use mathlib.Core.Path.{_≡_, refl, sym, ap, _∙_}
+use mathlib.Core.Path.{_≡_, refl, ap}
 use lib.ListN.{length, length-append, take, drop}
 use lib.Seq.{drop-append-seam, take-append-seam}
 use Rattle.group.specs.declared.Entry.{Entry}

@@ -7,10 +7,13 @@ pub mod Complete
 pub mod OnlyOne
 pub mod Unscanned
 pub mod Sound
-pub mod Bench
+pub mod Order
 pub mod Buffer
 pub mod Held
 pub mod Accounts
 pub mod Returned
 pub mod TotalKept
+pub mod Bench
+pub mod Theorems
+pub mod Shown
 pub mod WritingShown

@@ -1,12 +1,12 @@
 -- What the rows of an accepted run give is what any lawful layout of it finishes and leaves open; so it has one reading.
 -- Assumes nothing.
-use Prim.Native.Nat.{ℕ, suc, _+_, _*_, _-_, _≤_}
+use Prim.Native.Nat.{ℕ, _+_, _*_, _-_, _≤_}
 use native.Mathlib.Omega.{arith}
-use mathlib.Core.List.{List, [], _∷_, _++_}
+use mathlib.Core.List.{List, [], _∷_}
 use mathlib.Core.Path.{_≡_, refl, sym, ap, _∙_}
-use lib.ListN.{length, take, drop, replicate, length-replicate}
+use lib.ListN.{length, take, replicate, length-replicate}
 use Rattle.group.specs.declared.Entry.{Entry}
-use Rattle.group.specs.Sizes.{informationLength, longestRecord, lastNumber}
+use Rattle.group.specs.Sizes.{informationLength, longestRecord}
 use Rattle.group.specs.Store.{put}
 use Rattle.group.specs.Flags.{meaningOf}
 use Rattle.group.specs.Entries.{entriesBelow}
@@ -19,8 +19,8 @@ use Rattle.reader.specs.declared.ReadAnswer.{ReadAnswer}
 use Rattle.reader.specs.declared.ReadAnswer.the-variants as answer
 use Rattle.reader.specs.Scan.{rowsFrom, reachedBy}
 use Rattle.reader.specs.Answer.{fresh, readCall, groupRows, rowsLeft}
-use Rattle.reader.proofs.Accepted.{Passed, accepted}
-use Rattle.layout.specs.Items.{Item, Piece, Token, grouped, tokens}
+use Rattle.reader.proofs.Accepted.{accepted}
+use Rattle.layout.specs.Items.{Item, Piece, grouped, tokens}
 use Rattle.layout.specs.Layout.{Image, Run, Lays}
 use Rattle.layout.specs.Layout.Run.{run-none, run-more}
 use Rattle.layout.specs.Accepting.{Accepts, Lent}

@@ -3,10 +3,10 @@
 use Prim.Native.Nat.{ℕ, zero, suc, _+_, _-_, _≤_}
 use native.Mathlib.Omega.{arith}
 use mathlib.Core.List.{List, [], _∷_, _++_, map}
-use mathlib.Core.Bool.{Bool, true, false, cond, not, _&&_, _||_}
-use mathlib.Core.Path.{_≡_, refl, sym, ap, _∙_}
+use mathlib.Core.Bool.{Bool, true, false, cond, not}
+use mathlib.Core.Path.{_≡_, refl, ap, _∙_}
 use lib.ListN.{length, length-append}
-use lib.Dec.{eqb, leb}
+use lib.Dec.{eqb}
 use borrow.Author.Tests.{le-leb, eq-eqb}
 use Rattle.group.specs.declared.Entry.{Entry}
 use Rattle.group.specs.declared.Kind.{Kind}
@@ -18,7 +18,7 @@ use Rattle.group.proofs.FlagLaws.{meaning-of-flag}
 use Rattle.reader.specs.declared.Stand.{Stand}
 use Rattle.reader.specs.declared.Cursor.{Cursor}
 use Rattle.reader.specs.declared.ScanEnd.the-variants.{Reached}
-use Rattle.reader.specs.Rules.{mayFollow, isSkip, standAt, phaseAfter, advance, b4Kept, reachedAfter, skipKept}
+use Rattle.reader.specs.Rules.{mayFollow, isSkip, standAt, phaseAfter, advance, b4Kept, reachedAfter}
 use Rattle.reader.specs.Scan.{isLast, scan}
 use Rattle.reader.proofs.Faults.{Kept, no-fault}
 use Rattle.layout.specs.Items.{Piece, Token}
@@ -26,7 +26,7 @@ use Rattle.layout.specs.Items.Piece.{aTotal, aSeparator, aMiddle, aStart
 use Rattle.layout.specs.Items.Token.{piece, groupEnd}
 use Rattle.layout.specs.Layout.{kindOf, countOf, dataOf, userData, b4After, plainLeft, entriesOf}
 use Rattle.layout.proofs.Grammar.{Fits, Walk, Open, take-piece, take-end}
-use Rattle.layout.proofs.Grammar.Walk.{stop, step, leap}
+use Rattle.layout.proofs.Grammar.Walk.{step, leap}
 use Rattle.layout.proofs.Decode.{data-after}
 
 -- No piece is a skip.

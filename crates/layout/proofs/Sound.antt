@@ -4,7 +4,7 @@ use Prim.Native.Nat.{ℕ, zero, suc, _+_, _*_, _-_, _≤_}
 use native.Mathlib.Omega.{arith}
 use native.Mathlib.Nat.{zero-add}
 use mathlib.Core.List.{List, [], _∷_, _++_, map, append-assoc}
-use mathlib.Core.Bool.{Bool, true, false}
+use mathlib.Core.Bool.{true}
 use mathlib.Core.Path.{_≡_, refl, sym, ap, _∙_, subst}
 use lib.ListN.{length, take, drop, take-append-drop, length-drop}
 use lib.Seq.{take-take}
@@ -24,8 +24,8 @@ use Rattle.reader.specs.declared.ReadAnswer.the-variants as answer
 use Rattle.reader.specs.Rules.{standAt}
 use Rattle.reader.specs.Answer.{fresh, opening, closing, groupScan, readCall}
 use Rattle.reader.proofs.Accepted.{Ready, Passed, accepted}
-use Rattle.layout.specs.Items.{Item, Piece, Token, Each, grouped, tokens}
-use Rattle.layout.specs.Items.Each.{each-none, each-more}
+use Rattle.layout.specs.Items.{Piece, Token, Each, grouped, tokens}
+use Rattle.layout.specs.Items.Each.{each-more}
 use Rattle.layout.specs.Items.Token.{piece, groupEnd}
 use Rattle.layout.specs.Layout.{Image, Pictures, Run, Lays, userData, entriesOf}
 use Rattle.layout.specs.Layout.Run.{run-none, run-more}
@@ -33,7 +33,7 @@ use Rattle.layout.specs.Accepting.{Accepts}
 use Rattle.layout.specs.Accepting.Accepts.{accepts-none, accepts-more}
 use Rattle.layout.specs.Reading.{OfBytes, itemsAfter, begunAfter, itemsRead, begunRead}
 use Rattle.layout.proofs.Grammar.{Walk, Between, Found, walk-found}
-use Rattle.layout.proofs.Grammar.Walk.{stop, step, leap}
+use Rattle.layout.proofs.Grammar.Walk.{stop}
 use Rattle.layout.proofs.Grammar.Between.{b-free, b-inside, b-owed}
 use Rattle.layout.proofs.Assembled.{piecesIn, flat, in-grouped, items-of-tokens, begun-of-tokens}
 use Rattle.layout.proofs.Decode.{length-entries}

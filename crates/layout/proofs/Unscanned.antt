@@ -1,13 +1,13 @@
 -- From a scan that reaches its end to the pieces that it went over.
 -- Assumes nothing.
-use Prim.Native.Nat.{ℕ, zero, suc, _+_, _*_, _-_, _≤_, _<_}
+use Prim.Native.Nat.{ℕ, zero, suc, _+_, _-_, _≤_, _<_}
 use native.Mathlib.Omega.{arith}
 use mathlib.Core.List.{List, [], _∷_, _++_, map}
-use mathlib.Core.Bool.{Bool, true, false, cond, not, _&&_, _||_, false≢true, true≢false}
+use mathlib.Core.Bool.{Bool, true, false, not, false≢true, true≢false}
 use mathlib.Core.Path.{_≡_, refl, sym, ap, ap₂, _∙_, subst}
 use lib.ListN.{length, length-append, length-take, length-drop, take, drop}
 use lib.Seq.{take-add, drop-drop}
-use lib.Dec.{leb, eqb}
+use lib.Dec.{leb}
 use borrow.Author.Tests.{leb-true, eqb-true, not-true}
 use Rattle.group.specs.declared.Entry.{Entry}
 use Rattle.group.specs.declared.Kind.{Kind}
@@ -23,7 +23,7 @@ use Rattle.reader.specs.declared.Stand.{Stand}
 use Rattle.reader.specs.declared.Cursor.{Cursor}
 use Rattle.reader.specs.declared.ScanEnd.the-variants.{Reached}
 use Rattle.reader.specs.Rules.{mayFollow, isSkip, standAt, phaseAfter, advance, b4Kept, reachedAfter, roomKept, entryFault}
-use Rattle.reader.specs.Scan.{after, isLast, scan}
+use Rattle.reader.specs.Scan.{after, scan}
 use Rattle.reader.proofs.Faults.{Kept, kept, unknown-fault}
 use Rattle.reader.proofs.Scans.{went-on}
 use Rattle.layout.specs.Items.{Piece, Token}
@@ -31,7 +31,7 @@ use Rattle.layout.specs.Items.Piece.{aTotal, aSeparator, aMiddle, aStart
 use Rattle.layout.specs.Items.Token.{piece, groupEnd}
 use Rattle.layout.specs.Layout.{kindOf, countOf, dataOf, userData, b4After, plainLeft, entriesOf}
 use Rattle.layout.proofs.Grammar.{Fits, Walk}
-use Rattle.layout.proofs.Grammar.Walk.{stop, step, leap}
+use Rattle.layout.proofs.Grammar.Walk.{step, leap}
 use Rattle.layout.proofs.Decode.{data-after}
 
 -- An entry that was passed: the kind and the b4 that its flag means, and the rules that it keeps.
