@@ -14,11 +14,9 @@ use Rattle.group.specs.Sizes.{leastSize, standardSize, informationLength, sizeK
 use Rattle.group.specs.State.{startRefusal}
 use Rattle.group.proofs.Tests.{within}
 use Rattle.group.proofs.StateLaws.{started}
-use Rattle.reader.specs.declared.Reader.{Reader}
-use Rattle.reader.specs.declared.ReaderStart.the-variants as readerStart
 use Rattle.reader.specs.declared.Stand.the-variants as stand
 use Rattle.reader.specs.Rules.{standAt}
-use Rattle.reader.specs.Answer.{fresh, readerStartCall}
+use Rattle.reader.specs.Answer.{fresh}
 use Rattle.writer.specs.declared.Writer.{Writer}
 use Rattle.writer.specs.declared.WriterStart.the-variants as start
 use Rattle.writer.specs.declared.WriteAnswer.{WriteAnswer}
@@ -29,14 +27,15 @@ use Rattle.layout.specs.Items.{Piece, grouped}
 use Rattle.layout.specs.Items.Token.{piece}
 use Rattle.layout.specs.Layout.{Image, Run, Lays}
 use Rattle.layout.specs.Layout.Run.{run-none}
-use Rattle.layout.specs.Accepting.{Accepts, Lent, lentTo}
-use Rattle.layout.specs.Reading.{itemsAfter, begunAfter, itemsRead, begunRead}
+use Rattle.layout.specs.Accepting.{Lent}
+use Rattle.layout.specs.Reading.{itemsAfter, begunAfter}
 use Rattle.layout.specs.Writing.{Account, blank, afterRecord, noted, AsAsked, imageOf, Wrote}
 use Rattle.layout.specs.Writing.Wrote.{begins, goes-on, closes, refused}
+use Rattle.layout.specs.WritingStated.{GivesBack}
 use Rattle.layout.proofs.Assembled.{flat}
 use Rattle.layout.proofs.Grammar.{Walk}
 use Rattle.layout.proofs.Grammar.Walk.{stop}
-use Rattle.layout.proofs.Complete.{begins-at, complete-to}
+use Rattle.layout.proofs.Complete.{begins-at, complete-to, ends-with}
 use Rattle.layout.proofs.OnlyOne.{reading-is}
 use Rattle.layout.proofs.Sound.{lays-run}
 use Rattle.layout.proofs.Buffer.{buffered-fresh}
@@ -149,41 +148,27 @@ at-close (closes c information g x q e i j) = whole (kept (closes c information 
 at-close (refused c x e) = at-close x
 
 -- What the writer closed so far is a lawful layout of the account at the last close.
-pub wrote-lays : {size first : ℕ} {w : Desk} {run : List Image} {closed now : Account} → Wrote size first w run closed now → Lays size first (closed .finished) (closed .begun) run
-wrote-lays {size} {first} x =
+pub closed-lays : {size first : ℕ} {w : Desk} {run : List Image} {closed now : Account} → Wrote size first w run closed now → Lays size first (closed .finished) (closed .begun) run
+closed-lays {size} {first} x =
     let (size-kept, number-kept) = started size first (wrote-started x) in
     let c = at-close x in
     rw (c .finishes, c .breaks) at (lays-run size-kept number-kept (c .phase) (c .images) (c .walks))
 
 -- Where the phase is free, nothing is left half-written.
-pub free-whole : {size first : ℕ} {w : Desk} {run : List Image} {closed now : Account} → Wrote size first w run closed now → w .state .phase ≡ phase.Free → now .begun ≡ []
-free-whole {now} x e = subst (λ (p : Phase). Hand p now) e (kept x .hand)
-
--- A run that is accepted from the reader's own start, with these row buffers, and whose rows give an account.
-pub record GivesBack (size first : ℕ) (run : List Image) (lent : List (List ℕ)) (a : Account) : Type 0 where
-  pub reader : Reader
-  pub starts : readerStartCall size first ≡ readerStart.Started reader
-  pub rows : List (List ℕ)
-  pub final : Reader
-  pub accepts : Accepts reader run rows final
-  pub buffers : lentTo accepts ≡ lent
-  pub items : itemsRead run rows ≡ a .finished
-  pub begun : begunRead run rows ≡ a .begun
+pub none-begun : {size first : ℕ} {w : Desk} {run : List Image} {closed now : Account} → Wrote size first w run closed now → w .state .phase ≡ phase.Free → now .begun ≡ []
+none-begun {now} x e = subst (λ (p : Phase). Hand p now) e (kept x .hand)
 
 -- What the writer closed so far is accepted, with any row buffers long enough, and its reading is the account at the last close.
-pub returned : {size first : ℕ} {w : Desk} {run : List Image} {closed now : Account} {lent : List (List ℕ)} → Wrote size first w run closed now → Lent run lent → GivesBack size first run lent closed
-returned {size} {first} x lent =
+pub gives-back : {size first : ℕ} {w : Desk} {run : List Image} {closed now : Account} {lent : List (List ℕ)} → Wrote size first w run closed now → Lent run lent → GivesBack size first run lent closed
+gives-back {size} {first} x lent =
     let (size-kept, number-kept) = started size first (wrote-started x) in
-    let l = wrote-lays x in
+    let l = closed-lays x in
     let a = complete-to l lent in
     let (items, begun) = reading-is l (a .accepts) in
     record {
       reader = fresh size first;
       starts = begins-at size first size-kept number-kept;
-      rows = a .rows;
-      final = a .final;
-      accepts = a .accepts;
-      buffers = a .buffers;
+      accepted = record { rows = a .rows; final = a .final; accepts = a .accepts; buffers = a .buffers; ends = ends-with l a };
       items = items;
       begun = begun;
     }

@@ -2,24 +2,32 @@
 -- Assumes nothing.
 use Prim.Native.Nat.{ℕ, suc, _+_, _<_}
 use native.Mathlib.Omega.{arith}
-use mathlib.Core.List.{List, _∷_, _++_, map}
+use mathlib.Core.List.{List, [], _∷_, _++_, map}
 use mathlib.Core.Path.{_≡_, sym, _∙_, subst}
 use mathlib.Core.Logic.{_↔_}
 use lib.ListN.{length, getD}
+use Rattle.group.specs.declared.Phase.the-variants as phase
 use Rattle.group.proofs.StateLaws.{started}
 use Rattle.reader.specs.declared.Reader.{Reader}
 use Rattle.reader.specs.declared.ReaderStart.the-variants as start
 use Rattle.reader.specs.Answer.{fresh, readerStartCall}
+use Rattle.writer.specs.Laying.{Desk}
 use Rattle.layout.specs.Items.{Item, Each}
 use Rattle.layout.specs.Layout.{Image, Lays}
 use Rattle.layout.specs.Accepting.{Accepts, Lent}
 use Rattle.layout.specs.Reading.{OfBytes, itemsRead, begunRead}
 use Rattle.layout.specs.Stated.{EndsWith, AcceptedWith, AtEnd, OutOfOrder}
+use Rattle.layout.specs.Writing.{Account, Wrote}
+use Rattle.layout.specs.WritingStated.{GivesBack, TotalsKept}
+use Rattle.layout.specs.BenchTable.{Case, shown, benchTable}
 use Rattle.layout.proofs.Grammar.{tailPlace, tailSum}
 use Rattle.layout.proofs.Complete.{AcceptedTo, begun-at, complete-to, ends-with}
 use Rattle.layout.proofs.OnlyOne.{reading-is, one-reading, enough}
 use Rattle.layout.proofs.Sound.{lawful-from}
 use Rattle.layout.proofs.Order.{first-of, size-after, next-after, number-of, same-state, split, each-before, out-of-order}
+use Rattle.layout.proofs.Returned as written
+use Rattle.layout.proofs.TotalKept as totals
+use Rattle.layout.proofs.Bench as computed
 
 -- "A reader starts with L and the first number": s is the start call's own answer.
 module _ (size first : ℕ) (s : Reader) (begins : readerStartCall size first ≡ start.Started s) where
@@ -111,3 +119,29 @@ module _ (size first : ℕ) (s : Reader) (begins : readerStartCall size first �
 -- "broken off if the run ends before".
 pub only-one : (size first : ℕ) (i j : List Item) (b c : List ℕ) (run : List Image) → Lays size first i b run → Lays size first j c run → (i ≡ j) × (b ≡ c)
 only-one size first i j b c run l m = one-reading l m
+
+-- What was written: the calls of a writer, their answers and the phase that the caller sees, from the start call's own answer. "A
+-- call either finishes its work, or closes the group and says its number, its entry count and how many bytes it took."
+module _ (size first : ℕ) (w : Desk) (run : List Image) (closed now : Account) (x : Wrote size first w run closed now) where
+  -- The groups closed so far are a lawful layout of what was written up to the last close.
+  pub wrote-lays : Lays size first (closed .finished) (closed .begun) run
+  wrote-lays = written.closed-lays x
+
+  -- "A writer that lays the first call and feigns the others fails demand 3's return of what was written." The groups closed so
+  -- far are accepted, with any row buffers that are long enough, and the rows give back the account at the last close.
+  pub returned : (lent : List (List ℕ)) → Lent run lent → GivesBack size first run lent closed
+  returned lent e = written.gives-back x e
+
+  -- Where the phase is free, nothing is left half-written.
+  pub free-whole : w .state .phase ≡ phase.Free → now .begun ≡ []
+  free-whole e = written.none-begun x e
+
+  -- "With skip the total is owed." "An owed total is laid first by the next accepted call." Every record that spans groups and
+  -- whose bytes were all taken has its total laid, in its last part's group or as the first entry of the next, or is still owed
+  -- at the run's end.
+  pub total-kept : TotalsKept size first run closed
+  total-kept = totals.totals-kept x
+
+-- "The P cases are one theorem over one list": each comes to what is expected of it, every closed group byte for byte.
+pub bench : map (λ (c : Case). shown (c .given)) benchTable ≡ map (λ (c : Case). c .expected) benchTable
+bench = computed.bench

@@ -19,8 +19,8 @@ use Rattle.layout.specs.Items.Piece.{aTotal, aSeparator, aMiddle, aStart
 use Rattle.layout.specs.Layout.{Image, kindOf, countOf}
 use Rattle.layout.specs.Reading.{begunAfter}
 use Rattle.layout.specs.Writing.{Account, Wrote}
-use Rattle.layout.specs.Totals.{begunIn, TotalStands, EndInLast, TotalsKept}
-use Rattle.layout.specs.Totals.TotalStands.{in-its-group, first-in-next, still-owed}
+use Rattle.layout.specs.WritingStated.{begunIn, TotalStands, EndInLast, TotalsKept}
+use Rattle.layout.specs.WritingStated.TotalStands.{in-its-group, first-in-next, still-owed}
 use Rattle.layout.proofs.Assembled.{piecesIn, flat, in-grouped}
 use Rattle.layout.proofs.Grammar.{Fits, Walk, Between, total-equals}
 use Rattle.layout.proofs.Grammar.Between.{b-free, b-inside, b-owed}
@@ -230,8 +230,8 @@ all-taken a phase.Owed groups hand w begun taken = end-in-last groups w
 
 -- In a run the writer closed, every record that spans groups and whose bytes were all taken has its total laid, in its last
 -- part's group or as the first entry of the next, or is still owed at the run's end.
-pub total-kept : {size first : ℕ} {w : Desk} {run : List Image} {closed now : Account} → Wrote size first w run closed now → TotalsKept size first run closed
-total-kept {closed} x =
+pub totals-kept : {size first : ℕ} {w : Desk} {run : List Image} {closed now : Account} → Wrote size first w run closed now → TotalsKept size first run closed
+totals-kept {closed} x =
     let c = at-close x in
     record {
       groups = c .groups;

@@ -1,14 +1,28 @@
--- Document 01, "Which entry may follow": where the total stands of a record that spans groups, in a run that a writer closed.
+-- What the theorems of a writer state where it is more than one fact: a run that gives an account back, and where the totals
+-- stand of records that span groups.
 -- Assumes nothing.
 use Prim.Native.Nat.{ℕ, _≤_}
 use mathlib.Core.List.{List, [], _∷_, _++_}
 use mathlib.Core.Path.{_≡_}
 use lib.ListN.{length}
+use Rattle.reader.specs.declared.Reader.{Reader}
+use Rattle.reader.specs.declared.ReaderStart.the-variants as start
+use Rattle.reader.specs.Answer.{readerStartCall}
 use Rattle.layout.specs.Items.{Piece}
 use Rattle.layout.specs.Items.Piece.{aTotal, aLast}
 use Rattle.layout.specs.Layout.{Image, Run}
-use Rattle.layout.specs.Reading.{begunAfter}
+use Rattle.layout.specs.Reading.{begunAfter, itemsRead, begunRead}
+use Rattle.layout.specs.Stated.{AcceptedWith}
 use Rattle.layout.specs.Writing.{Account}
+
+-- A run that is accepted from the reader's own start, by reads which are lent just these row buffers, and the rows that they
+-- are left with give back an account: the items finished, and the bytes so far of the record that is not.
+pub record GivesBack (size first : ℕ) (run : List Image) (lent : List (List ℕ)) (a : Account) : Type 0 where
+  pub reader : Reader
+  pub starts : readerStartCall size first ≡ start.Started reader
+  pub accepted : AcceptedWith reader run lent (a .begun)
+  pub items : itemsRead run (accepted .rows) ≡ a .finished
+  pub begun : begunRead run (accepted .rows) ≡ a .begun
 
 -- The bytes so far of the record that is open after these groups.
 unfoldable pub begunIn : List ℕ → List (List Piece) → List ℕ
