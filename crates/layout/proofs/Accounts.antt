@@ -1,6 +1,6 @@
 -- What each call does to what is held and to the caller's account: the account says what the pieces say.
 -- Assumes nothing.
-use Prim.Native.Nat.{ℕ, _+_, _-_, _≤_, _<_}
+use Prim.Native.Nat.{ℕ, _+_, _-_, _≤_}
 use native.Mathlib.Omega.{arith}
 use mathlib.Core.List.{List, [], _∷_, _++_, append-nil}
 use mathlib.Core.Bool.{Bool, true, false, cond, true≢false}
@@ -20,18 +20,17 @@ use Rattle.reader.specs.Rules.{mayFollow, standAt, phaseAfter}
 use Rattle.writer.specs.declared.Writer.{Writer}
 use Rattle.writer.specs.declared.WriteAnswer.{WriteAnswer}
 use Rattle.writer.specs.declared.WriteAnswer.the-variants.{Finished, Closed, Refused}
-use Rattle.writer.specs.State.{isFree, isInside, endsEmpty}
-use Rattle.writer.specs.Room.{middleLength, lastWithTotal}
+use Rattle.writer.specs.State.{isInside, endsEmpty}
+use Rattle.writer.specs.Room.{middleLength}
 use Rattle.writer.specs.Laying.{Desk, desk, layEntry, layData, layPart, moved, laySkip, zeroGap, shut, warnState, payOwed, ready}
-use Rattle.writer.specs.Calls.{Call, Done, call, finished, closed, orRefused, recordAccepted, recordCall, separatorAccepted, separatorCall, endAccepted, endCall}
+use Rattle.writer.specs.Calls.{Call, Done, call, finished, closed, orRefused, recordAccepted, recordCall, separatorAccepted, separatorCall, endCall}
 use Rattle.writer.specs.Calls.Call.{aRecord, aSeparator, anEnd}
 use Rattle.writer.specs.Bounds.{span}
 use Rattle.writer.proofs.SoundLaws.{Sound}
-use Rattle.writer.proofs.Accepted.{Accepted, Offered, Separated, Ended, record-accepted, separator-accepted, end-accepted}
+use Rattle.writer.proofs.Accepted.{Offered, Separated, Ended, record-accepted, separator-accepted, end-accepted}
 use Rattle.writer.proofs.CallLaws.{RecordedFree, entire, start, nothing, recorded-free, RecordedInside, part, total, owed, recorded-inside, SeparatorLaid, laid, not-laid, separator-laid, EndLaid, ends-nothing, ends-group, end-laid}
-use Rattle.layout.specs.Items.{Item}
+use Rattle.layout.specs.Items.{Item, Piece}
 use Rattle.layout.specs.Items.Item.{recordItem}
-use Rattle.layout.specs.Items.{Piece}
 use Rattle.layout.specs.Layout.{Image, kindOf, countOf, dataOf}
 use Rattle.layout.specs.Reading.{itemsAfter, begunAfter}
 use Rattle.layout.specs.Writing.{Account, totalLaid, inHand, afterRecord, afterSeparator, noted, AsAsked, imageOf}

@@ -10,7 +10,7 @@ use lib.Dec.{eqb}
 use borrow.Author.Tests.{eqb-true}
 use Rattle.group.specs.declared.Phase.{Phase}
 use Rattle.group.specs.declared.Phase.the-variants as phase
-use Rattle.group.specs.Sizes.{leastSize, standardSize, informationLength, sizeKept, numberKept}
+use Rattle.group.specs.Sizes.{leastSize, standardSize, informationLength}
 use Rattle.group.specs.State.{startRefusal}
 use Rattle.group.proofs.Tests.{within}
 use Rattle.group.proofs.StateLaws.{started}
@@ -39,7 +39,6 @@ use Rattle.layout.proofs.Complete.{begins-at, complete-to, ends-with}
 use Rattle.layout.proofs.OnlyOne.{reading-is}
 use Rattle.layout.proofs.Sound.{lays-run}
 use Rattle.layout.proofs.Buffer.{buffered-fresh}
-use Rattle.layout.proofs.Held.{Held}
 use Rattle.layout.proofs.Accounts.{Hand, Kept, Said, after-call, AsGiven, as-given}
 
 -- What the start call's answer says: it was not refused, and the state is the fresh one.

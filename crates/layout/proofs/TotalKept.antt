@@ -11,7 +11,7 @@ use Rattle.group.specs.declared.Phase.{Phase}
 use Rattle.group.specs.declared.Phase.the-variants as phase
 use Rattle.reader.specs.declared.Stand.{Stand}
 use Rattle.reader.specs.declared.Stand.the-variants.{Free, AfterPart, Inside, AfterLast, Owed}
-use Rattle.reader.specs.Rules.{mayFollow, standAfter, sumAfter, standAt, phaseAfter}
+use Rattle.reader.specs.Rules.{mayFollow, standAfter, standAt, phaseAfter}
 use Rattle.writer.specs.Laying.{Desk}
 use Rattle.layout.specs.Items.{Piece, Token, grouped}
 use Rattle.layout.specs.Items.Token.{piece, groupEnd}
@@ -27,7 +27,7 @@ use Rattle.layout.proofs.Grammar.Between.{b-free, b-inside, b-owed}
 use Rattle.layout.proofs.Grammar.Walk.{stop, step, leap}
 use Rattle.layout.proofs.Held.{begun-append}
 use Rattle.layout.proofs.Accounts.{Hand}
-use Rattle.layout.proofs.Returned.{AtClose, at-close}
+use Rattle.layout.proofs.Returned.{at-close}
 
 -- A walk cut in two.
 record Cut (to : Stand) (n : ℕ) (at : Stand) (s : ℕ) (ts us : List Token) : Type 0 where
