@@ -40,7 +40,7 @@ pub data Walk (to : Stand) (n : ℕ) : Stand → ℕ → List Token → Type 0 w
       mayFollow at Skip ≡ true → Walk to n (standAt (phaseAfter at)) sum ts → Walk to n at sum (groupEnd ∷ ts)
 
 -- A part that keeps its rule has no fault.
-part-fits : (count parts most : ℕ) → 1 ≤ count → parts ≤ most → partFault count parts most ≡ 0
+pub part-fits : (count parts most : ℕ) → 1 ≤ count → parts ≤ most → partFault count parts most ≡ 0
 part-fits count parts most h k = rw (le-leb 1 count h, le-leb parts most k)
 
 -- From sound laid items to a walk.
@@ -169,8 +169,8 @@ separator-kept v sum e = by (leb v 1) refl e
     by true x h = leb-true v 1 x
     by false x h = absurd (omega arith)
 
-total-kept : (n sum : ℕ) → countFault Total sum n ≡ 0 → n ≡ sum
-total-kept n sum e = by (eqb n sum) refl e
+pub total-equals : (n sum : ℕ) → countFault Total sum n ≡ 0 → n ≡ sum
+total-equals n sum e = by (eqb n sum) refl e
   where
     by : (b : Bool) → eqb n sum ≡ b → _≡_ {A = ℕ} (cond b 0 11) 0 → n ≡ sum
     by true x h = eqb-true n sum x
@@ -226,13 +226,13 @@ take-piece size {s} (o-inside p ps a b h e) (aMiddle bs) f = let (i, j) = part-k
 take-piece size {s} (o-inside p ps a b h e) (aStart bs) f = absurd (false≢true (f .follows))
 take-piece size {s} (o-inside p ps a b h e) (aLast bs) f = let (i, j) = part-kept (length bs) (s + length bs) longestRecord (f .kept) in record { opens = o-ended p ps bs a b i j (omega arith); back = λ ts r. r }
 take-piece size {s} (o-inside p ps a b h e) (anEntire bs) f = absurd (false≢true (f .follows))
-take-piece size {s} (o-ended p ps q a b c h e) (aTotal n) f = record { opens = o-free; back = λ ts r. found-spanned size p ps q false n ts a b c (omega arith) (omega (arith, total-kept n s (f .kept))) r }
+take-piece size {s} (o-ended p ps q a b c h e) (aTotal n) f = record { opens = o-free; back = λ ts r. found-spanned size p ps q false n ts a b c (omega arith) (omega (arith, total-equals n s (f .kept))) r }
 take-piece size {s} (o-ended p ps q a b c h e) (aSeparator n) f = absurd (false≢true (f .follows))
 take-piece size {s} (o-ended p ps q a b c h e) (aMiddle bs) f = absurd (false≢true (f .follows))
 take-piece size {s} (o-ended p ps q a b c h e) (aStart bs) f = absurd (false≢true (f .follows))
 take-piece size {s} (o-ended p ps q a b c h e) (aLast bs) f = absurd (false≢true (f .follows))
 take-piece size {s} (o-ended p ps q a b c h e) (anEntire bs) f = absurd (false≢true (f .follows))
-take-piece size {s} (o-owed p ps q a b c h e) (aTotal n) f = record { opens = o-free; back = λ ts r. found-spanned size p ps q true n ts a b c (omega arith) (omega (arith, total-kept n s (f .kept))) r }
+take-piece size {s} (o-owed p ps q a b c h e) (aTotal n) f = record { opens = o-free; back = λ ts r. found-spanned size p ps q true n ts a b c (omega arith) (omega (arith, total-equals n s (f .kept))) r }
 take-piece size {s} (o-owed p ps q a b c h e) (aSeparator n) f = absurd (false≢true (f .follows))
 take-piece size {s} (o-owed p ps q a b c h e) (aMiddle bs) f = absurd (false≢true (f .follows))
 take-piece size {s} (o-owed p ps q a b c h e) (aStart bs) f = absurd (false≢true (f .follows))

@@ -1,6 +1,6 @@
 -- A run that a reader accepts, group by group, by the answers of the read call and the rows that it leaves.
 -- Assumes nothing.
-use Prim.Native.Nat.{ℕ}
+use Prim.Native.Nat.{ℕ, _*_, _≤_}
 use mathlib.Core.List.{List, [], _∷_}
 use mathlib.Core.Path.{_≡_}
 use lib.ListN.{length}
@@ -15,3 +15,13 @@ pub data Accepts : Reader → List Image → List (List ℕ) → Reader → Type
   accepts-more : {s t u : Reader} {g : Image} {gs : List Image} {rows : List (List ℕ)} (old : List ℕ) →
       readCall s (g .bytes) (g .number) (g .entries) (length old) ≡ answer.Accepted t → Accepts t gs rows u →
       Accepts s (g ∷ gs) (rowsLeft (readCall s (g .bytes) (g .number) (g .entries) (length old)) (groupRows s (g .bytes) (g .entries)) old ∷ rows) u
+
+-- Row buffers for a run, any that are long enough: one for each group, with room for three numbers per entry.
+pub data Lent : List Image → List (List ℕ) → Type 0 where
+  lent-none : Lent [] []
+  lent-more : {g : Image} {gs : List Image} {old : List ℕ} {more : List (List ℕ)} → 3 * g .entries ≤ length old → Lent gs more → Lent (g ∷ gs) (old ∷ more)
+
+-- The row buffers that the reads of an accepted run were lent.
+unfoldable pub lentTo : {s t : Reader} {run : List Image} {rows : List (List ℕ)} → Accepts s run rows t → List (List ℕ)
+lentTo accepts-none = []
+lentTo (accepts-more old e a) = old ∷ lentTo a

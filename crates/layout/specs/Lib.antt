@@ -1,7 +1,10 @@
 -- What a run means, in document 01's words: items, lawful layouts (which know nothing of reader or writer), what a reader
--- accepts and what its rows give, what a caller wrote, and the bench table.
+-- accepts and what its rows give, what a caller wrote, what the theorems state of either, and the bench table.
 pub mod Items
 pub mod Layout
 pub mod Accepting
 pub mod Reading
+pub mod Stated
 pub mod Writing
+pub mod WritingStated
+pub mod BenchTable

@@ -1,0 +1,27 @@
+-- Document 01, "Marked P: proved together": the bench table's cases P1 to P12 as one theorem over one list, by computation.
+-- Assumes nothing.
+use mathlib.Core.Path.{_≡_, refl}
+use mathlib.Core.List.{map}
+use Rattle.group.specs.Store.{put}
+use Rattle.group.specs.Numbers.{numberAt, bytesOf}
+use Rattle.group.specs.Entries.{entryAt, entryBytes, entriesBelow}
+use Rattle.group.specs.Flags.{meaningOf}
+use Rattle.group.specs.State.{runSound, startRefusal}
+use Rattle.reader.specs.Rules.{mayFollow, entryFault}
+use Rattle.reader.specs.Scan.{scan, rowsFrom}
+use Rattle.reader.specs.Answer.{readerStartCall, readRefusal, groupScan, readCall, groupRows}
+use Rattle.writer.specs.State.{roomKept, emptyKept, restKept, dataKept, clearKept, spentKept, writerSound, recordRefusal, separatorRefusal, endRefusal}
+use Rattle.writer.specs.Room.{room, fitOf}
+use Rattle.writer.specs.Laying.{layEntry, layData, layPart, moved, laySkip, zeroGap, shut, warnState, payOwed, ready}
+use Rattle.writer.specs.Calls.{finished, closed, orRefused, writerStartCall, byFit, recordFree, middle, last, recordInside, recordAccepted, recordCall, separatorAccepted, separatorCall, endAccepted, endCall, call, told}
+use Rattle.layout.specs.BenchTable.{Case, shown, shownFrom, answerTo, readAll, readTo, deskAfter, closedBy, next, toldAll, closedAll, deskLeft, from, benchTable}
+
+-- All that must open for a case to be computed.
+unfoldable pub opens : Unit {0}
+unfolding put numberAt bytesOf entryAt entryBytes entriesBelow meaningOf runSound startRefusal mayFollow entryFault scan rowsFrom readerStartCall readRefusal groupScan readCall groupRows roomKept emptyKept restKept dataKept clearKept spentKept writerSound recordRefusal separatorRefusal endRefusal room fitOf layEntry layData layPart moved laySkip zeroGap shut warnState payOwed ready finished closed orRefused writerStartCall byFit recordFree middle last recordInside recordAccepted recordCall separatorAccepted separatorCall endAccepted endCall call told
+opens = tt
+
+-- Each case comes to what is expected of it.
+pub bench : map (λ (c : Case). shown (c .given)) benchTable ≡ map (λ (c : Case). c .expected) benchTable
+unfolding opens shown shownFrom answerTo readAll readTo deskAfter closedBy next toldAll closedAll deskLeft from benchTable
+bench = refl

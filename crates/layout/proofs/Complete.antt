@@ -1,0 +1,193 @@
+-- A run of groups that picture the pieces of a lawful layout is accepted, whatever row buffers are lent, if they are long enough.
+-- Assumes nothing.
+use Prim.Native.Nat.{ℕ, suc, _+_, _*_, _-_, _≤_}
+use native.Mathlib.Omega.{arith}
+use mathlib.Core.List.{List, [], _∷_, _++_, map}
+use mathlib.Core.Bool.{Bool, true, false, cond}
+use mathlib.Core.Path.{_≡_, refl, sym, ap, _∙_}
+use mathlib.Core.Logic.{_↔_}
+use lib.ListN.{length, length-append}
+use lib.Dec.{eqb}
+use borrow.Author.Tests.{eqb-true}
+use Rattle.group.specs.declared.Phase.{Phase}
+use Rattle.group.specs.declared.Phase.the-variants as phase
+use Rattle.group.specs.declared.Entry.{Entry}
+use Rattle.group.specs.Entries.{entriesBelow}
+use Rattle.group.specs.Sizes.{informationLength, longestRecord, lastNumber, sizeKept, numberKept, entryOffset}
+use Rattle.group.specs.State.{sumKept, startRefusal}
+use Rattle.group.proofs.Tests.{within, is-within}
+use Rattle.reader.specs.declared.Reader.{Reader}
+use Rattle.reader.specs.declared.Stand.{Stand}
+use Rattle.reader.specs.declared.Stand.the-variants.{Free, Inside, Owed}
+use Rattle.reader.specs.declared.ReaderStart.the-variants as start
+use Rattle.reader.specs.declared.ReadAnswer.the-variants as answer
+use Rattle.reader.specs.Rules.{standAt}
+use Rattle.reader.specs.Answer.{fresh, readerStartCall, opening, closing, groupScan, readCall}
+use Rattle.reader.proofs.Accepted.{Ready, accepts}
+use Rattle.layout.specs.Items.{Item, Tail, Piece, Token, Each, grouped, joined, soFar, wholeOf, SoundTail}
+use Rattle.layout.specs.Items.Each.{each-none, each-more}
+use Rattle.layout.specs.Items.Tail.{noneOpen, brokenInside, brokenOwed}
+use Rattle.layout.specs.Items.SoundTail.{sound-inside, sound-owed}
+use Rattle.layout.specs.Items.Token.{piece, groupEnd}
+use Rattle.layout.specs.Layout.{Image, Pictures, Run, Lays, userData, entriesOf}
+use Rattle.layout.specs.Layout.Run.{run-none, run-more}
+use Rattle.layout.specs.Stated.{EndsWith}
+use Rattle.layout.specs.Accepting.{Accepts, Lent, lentTo}
+use Rattle.layout.specs.Accepting.Accepts.{accepts-none, accepts-more}
+use Rattle.layout.specs.Accepting.Lent.{lent-none, lent-more}
+use Rattle.layout.proofs.Grammar.{Walk, Open, walk-laid, tailPlace, tailSum}
+use Rattle.layout.proofs.Grammar.Walk.{stop, step, leap}
+use Rattle.layout.proofs.Grammar.Open.{o-free, o-inside, o-owed}
+use Rattle.layout.proofs.Decode.{SmallPiece, adds-up, entries-back}
+use Rattle.layout.proofs.Scanned.{Reaches, scan-pieces}
+
+-- What a start's own answer tells: L and the first number are in range, and the state is the fresh one.
+pub begun-at : (size first : ℕ) (s : Reader) → readerStartCall size first ≡ start.Started s → (startRefusal size first ≡ 0) × (s ≡ fresh size first)
+unfolding readerStartCall
+begun-at size first s e = by (eqb (startRefusal size first) 0) refl e
+  where
+    by : (b : Bool) → eqb (startRefusal size first) 0 ≡ b → cond b (start.Started (fresh size first)) (start.Refused (startRefusal size first)) ≡ start.Started s
+        → (startRefusal size first ≡ 0) × (s ≡ fresh size first)
+    by true x h = (eqb-true (startRefusal size first) 0 x, cc)
+    by false x h = let z : _≡_ {A = ℕ} 0 1 = cc in absurd (omega arith)
+
+pub begins-at : (size first : ℕ) → sizeKept size ≡ true → numberKept first ≡ true → readerStartCall size first ≡ start.Started (fresh size first)
+unfolding readerStartCall startRefusal
+begins-at size first h k = rw (h, k)
+
+-- A walk to the end of a group: its pieces are small, and the walk goes on behind it.
+pub record Past (to : Stand) (n : ℕ) (ps : List Piece) (rest : List Token) : Type 0 where
+  pub small : Each SmallPiece ps
+  pub stand : Stand
+  pub sum : ℕ
+  pub goes : Walk to n stand sum rest
+
+pub past : {to at : Stand} {n s : ℕ} (ps : List Piece) (rest : List Token) → Walk to n at s (map piece ps ++ (groupEnd ∷ rest)) → Past to n ps rest
+past [] rest (leap h w) = record { small = each-none; stand = _; sum = _; goes = w }
+past (p ∷ ps) rest (step f w) =
+    let q = past ps rest w in
+    record { small = each-more (f .small) (q .small); stand = q .stand; sum = q .sum; goes = q .goes }
+
+-- The walk of a lawful layout's groups.
+pub walk-of : {size first : ℕ} {i : List Item} {b : List ℕ} {run : List Image} (l : Lays size first i b run) → Walk (tailPlace (l .tail)) (tailSum (l .tail)) Free 0 (grouped (l .groups))
+walk-of l = rw (l .groupsOf) at (walk-laid (l .sound) (l .soundTail))
+
+-- The sum is kept between groups.
+sum-kept : (f : Phase) (s : ℕ) → Open (standAt f) s → sumKept f s ≡ true
+sum-kept phase.Free s o-free = refl
+sum-kept phase.Inside s (o-inside p ps a b h e) = is-within {low = 1} {n = s} {high = longestRecord - 1} (omega arith) h
+sum-kept phase.Owed s (o-owed p ps q a b c h e) = is-within {low = 2} {n = s} {high = longestRecord} (omega arith) h
+
+-- A reader between groups, its numbers in range.
+pub record At (s : Reader) : Type 0 where
+  pub least : 64 ≤ s .size
+  pub most : s .size ≤ 126632
+  pub some : 1 ≤ s .next
+  pub opens : Open (standAt (s .phase)) (s .sum)
+
+-- One group that is read: the state that it leaves, and where the tokens behind it lead to.
+pub record Read (s : Reader) (g : Image) (room : ℕ) (to : Stand) (n : ℕ) (rest : List Token) : Type 0 where
+  pub left : Reader
+  pub answers : readCall s (g .bytes) (g .number) (g .entries) room ≡ answer.Accepted left
+  pub goes : Walk to n (standAt (left .phase)) (left .sum) rest
+  pub at : At left
+  pub sizes : left .size ≡ s .size
+  pub nexts : left .next ≡ suc (s .next)
+
+module _ {s : Reader} {plain room : ℕ} {ps : List Piece} {g : Image} (at : At s) (low : s .next ≤ lastNumber) (number : g .number ≡ s .next) (f : Pictures (s .size) plain ps g)
+    (fits : 3 * g .entries ≤ room) where
+  ready : Ready s (length (g .bytes)) (g .number) (g .entries) room
+  ready =
+      record {
+        run = record { least = at .least; most = at .most; some = at .some; number = omega arith; kept = sum-kept (s .phase) (s .sum) (at .opens) };
+        long = f .filled;
+        next = number;
+        numbered = omega arith;
+        some = omega (arith, f .counted);
+        fits = omega (arith, adds-up f, f .counted);
+        rows = fits;
+      }
+
+  -- .. where its scan reaches the end.
+  read-from : {to : Stand} {n : ℕ} {rest : List Token} (es : List Entry) → entriesBelow (g .bytes) (s .size - informationLength) (g .entries) ≡ es →
+      Reaches (s .size) (entryOffset (s .size) (g .entries)) es 1 (opening s) to n rest → Read s g room to n rest
+  unfolding groupScan
+  read-from es back r =
+      record {
+        left = closing s (r .end);
+        answers = accepts s (closing s (r .end)) (g .bytes) (g .number) (g .entries) room (record { ready = ready; end = r .end; reached = rw back (r .scans); left = refl });
+        goes = r .goes;
+        at = record { least = at .least; most = at .most; some = omega arith; opens = r .opens };
+        sizes = refl;
+        nexts = omega arith;
+      }
+
+  read-group : {to : Stand} {n : ℕ} (rest : List Token) → Walk to n (standAt (s .phase)) (s .sum) (map piece ps ++ (groupEnd ∷ rest)) → Read s g room to n rest
+  read-group rest w =
+      read-from (entriesOf plain (s .size - length (userData ps)) ps) (entries-back f (omega (arith, at .most)) ((past ps rest w) .small))
+      (scan-pieces (s .size) (entryOffset (s .size) (g .entries)) ps plain (s .size - length (userData ps)) 1 (opening s) rest refl (omega (arith, adds-up f, f .counted)) (omega arith) (at .opens) w)
+
+-- A run that is accepted with these row buffers, and how it stands at its end.
+pub record AcceptedTo (s : Reader) (run : List Image) (lent : List (List ℕ)) (to : Stand) (n : ℕ) : Type 0 where
+  pub rows : List (List ℕ)
+  pub final : Reader
+  pub accepts : Accepts s run rows final
+  pub buffers : lentTo accepts ≡ lent
+  pub stand : standAt (final .phase) ≡ to
+  pub sum : final .sum ≡ n
+
+accepted-on : {s t : Reader} {g : Image} {gs : List Image} {more : List (List ℕ)} {to : Stand} {n : ℕ} (old : List ℕ) →
+    readCall s (g .bytes) (g .number) (g .entries) (length old) ≡ answer.Accepted t → AcceptedTo t gs more to n → AcceptedTo s (g ∷ gs) (old ∷ more) to n
+unfolding lentTo
+accepted-on old e a =
+    record {
+      rows = _;
+      final = a .final;
+      accepts = accepts-more old e (a .accepts);
+      buffers = ap {B = List (List ℕ)} (λ b. old ∷ b) (a .buffers);
+      stand = a .stand;
+      sum = a .sum;
+    }
+
+ends : {to at : Stand} {n s : ℕ} → Walk to n at s [] → (at ≡ to) × (s ≡ n)
+ends stop = (refl, refl)
+
+pub accepts-run : {to : Stand} {n size number : ℕ} {groups : List (List Piece)} {run : List Image} {lent : List (List ℕ)} (s : Reader) → At s → s .size ≡ size → s .next ≡ number →
+    Run size number groups run → Lent run lent → Walk to n (standAt (s .phase)) (s .sum) (grouped groups) → AcceptedTo s run lent to n
+unfolding grouped lentTo
+accepts-run s at e m run-none lent-none w =
+    let (p, q) = ends w in
+    record { rows = []; final = s; accepts = accepts-none; buffers = refl; stand = p; sum = q }
+accepts-run s at e m (run-more {plain} {ps} {pss} {g} i j f r) (lent-more {old} fits more) w =
+    let q = read-group {plain = plain} {room = length old} {ps = ps} {g = g} at (omega arith) (omega arith) (rw e f) fits (grouped pss) w in
+    accepted-on old (q .answers) (accepts-run (q .left) (q .at) (q .sizes ∙ e) (q .nexts ∙ ap suc m) r more (q .goes))
+
+pub complete-to : {size first : ℕ} {i : List Item} {b : List ℕ} {run : List Image} {lent : List (List ℕ)} (l : Lays size first i b run) → Lent run lent →
+    AcceptedTo (fresh size first) run lent (tailPlace (l .tail)) (tailSum (l .tail))
+complete-to {size} {first} l lent =
+    let (least, most) = within 64 size 126632 (l .sized) in
+    let (some, last) = within 1 first lastNumber (l .numbered) in
+    accepts-run (fresh size first) (record { least = least; most = most; some = some; opens = o-free }) refl refl (l .images) lent (walk-of l)
+
+-- The sum at the end is the length of what is open, and the phase is free where nothing is.
+tail-sum : (t : Tail) → tailSum t ≡ length (soFar t)
+unfolding tailSum soFar wholeOf
+tail-sum noneOpen = refl
+tail-sum (brokenInside p ps) = sym (length-append p (joined ps))
+tail-sum (brokenOwed p ps q) = simp length-append (omega arith)
+
+tail-free : {size : ℕ} (f : Phase) (t : Tail) → SoundTail size t → standAt f ≡ tailPlace t → (f ≡ phase.Free) ↔ (soFar t ≡ [])
+unfolding tailPlace soFar wholeOf
+tail-free phase.Free noneOpen o e = (λ h. refl, λ h. refl)
+tail-free phase.Inside noneOpen o e = let z : _≡_ {A = ℕ} 0 1 = cc in absurd (omega arith)
+tail-free phase.Owed noneOpen o e = let z : _≡_ {A = ℕ} 0 1 = cc in absurd (omega arith)
+tail-free f (brokenInside p ps) (sound-inside a b h) e = (λ x. let y = ap standAt x in let z : _≡_ {A = ℕ} 0 1 = cc in absurd (omega arith), λ x. absurd (omega (arith, ap length x, length-append p (joined ps))))
+tail-free f (brokenOwed p ps q) (sound-owed a b c h m) e = (λ x. let y = ap standAt x in let z : _≡_ {A = ℕ} 0 1 = cc in absurd (omega arith), λ x. absurd (let all = simp length-append at (ap length x) in omega (arith, all)))
+
+pub ends-with : {size first : ℕ} {s : Reader} {i : List Item} {b : List ℕ} {run : List Image} {lent : List (List ℕ)} (l : Lays size first i b run) →
+    (a : AcceptedTo s run lent (tailPlace (l .tail)) (tailSum (l .tail))) → EndsWith b (a .final)
+ends-with l a =
+    record {
+      sum = a .sum ∙ tail-sum (l .tail) ∙ ap length (l .breaks);
+      free = rw (l .breaks) at (tail-free (a .final .phase) (l .tail) (l .soundTail) (a .stand));
+    }

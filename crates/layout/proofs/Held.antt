@@ -1,0 +1,163 @@
+-- What a desk and a run hold: the pieces of the groups closed and of the open group; and what b4, laying and closing do to it.
+-- Assumes nothing.
+use Prim.Native.Nat.{ℕ, _+_, _≤_}
+use native.Mathlib.Omega.{arith}
+use mathlib.Core.List.{List, [], _∷_, _++_, map, append-assoc, append-nil}
+use mathlib.Core.Bool.{Bool, true, false, _||_}
+use mathlib.Core.Path.{_≡_, refl, ap}
+use lib.ListN.{length}
+use Rattle.group.specs.declared.Kind.the-variants.{Skip}
+use Rattle.group.specs.declared.Phase.{Phase}
+use Rattle.group.specs.Sizes.{informationLength, lastNumber}
+use Rattle.reader.specs.declared.Stand.{Stand}
+use Rattle.reader.specs.declared.Stand.the-variants.{Free}
+use Rattle.reader.specs.Rules.{mayFollow, standAfter, sumAfter, standAt, phaseAfter}
+use Rattle.writer.specs.Laying.{Desk, desk, layEntry, layData, layPart, moved, laySkip, zeroGap, shut, warnState}
+use Rattle.writer.specs.Bounds.{span}
+use Rattle.layout.specs.Items.{Item, Piece, Token, grouped}
+use Rattle.layout.specs.Items.Token.{piece, groupEnd}
+use Rattle.layout.specs.Items.Item.{recordItem, separatorItem}
+use Rattle.layout.specs.Items.Piece.{aTotal, aSeparator, aMiddle, aStart, aLast, anEntire}
+use Rattle.layout.specs.Layout.{Image, Run, kindOf, countOf, dataOf}
+use Rattle.layout.specs.Layout.Run.{run-none, run-more}
+use Rattle.layout.specs.Reading.{itemsAfter, begunAfter}
+use Rattle.layout.specs.Writing.{imageOf}
+use Rattle.layout.proofs.Assembled.{flat}
+use Rattle.layout.proofs.Grammar.{Fits, Walk}
+use Rattle.layout.proofs.Grammar.Walk.{stop, step, leap}
+use Rattle.layout.proofs.Buffer.{Flagged, Buffered, Pictured, buffered-entry, buffered-part, buffered-shut, buffered-fresh, length-snoc}
+use Rattle.layout.proofs.Buffer.Flagged.{clear, set}
+
+-- At the end of a list: a walk, the tokens, the pieces, the run.
+
+walk-piece : {to at : Stand} {n s : ℕ} {ts : List Token} (p : Piece) → Walk to n at s ts → Fits to n p →
+    Walk (standAfter to (kindOf p)) (sumAfter (kindOf p) n (countOf p)) at s (ts ++ (piece p ∷ []))
+walk-piece p stop f = step f stop
+walk-piece p (step g w) f = step g (walk-piece p w f)
+walk-piece p (leap h w) f = leap h (walk-piece p w f)
+
+walk-end : {to at : Stand} {n s : ℕ} {ts : List Token} → Walk to n at s ts → mayFollow to Skip ≡ true → Walk (standAt (phaseAfter to)) n at s (ts ++ (groupEnd ∷ []))
+walk-end stop f = leap f stop
+walk-end (step g w) f = step g (walk-end w f)
+walk-end (leap h w) f = leap h (walk-end w f)
+
+pub map-snoc : (ps : List Piece) (p : Piece) → map piece (ps ++ (p ∷ [])) ≡ map piece ps ++ (piece p ∷ [])
+map-snoc [] p = refl
+map-snoc (q ∷ ps) p = ap {B = List Token} (λ r. piece q ∷ r) (map-snoc ps p)
+
+grouped-snoc : (gs : List (List Piece)) (ps : List Piece) → grouped (gs ++ (ps ∷ [])) ≡ grouped gs ++ map piece ps ++ (groupEnd ∷ [])
+unfolding grouped
+grouped-snoc [] ps = refl
+grouped-snoc (g ∷ gs) ps = rw (grouped-snoc gs ps, append-assoc (map piece g) (groupEnd ∷ grouped gs) (map piece ps), append-assoc (map piece g) (groupEnd ∷ (grouped gs ++ map piece ps)) (groupEnd ∷ []))
+
+flat-snoc : (gs : List (List Piece)) (ps : List Piece) → flat (gs ++ (ps ∷ [])) ≡ flat gs ++ ps
+unfolding flat
+flat-snoc [] ps = append-nil ps
+flat-snoc (g ∷ gs) ps = rw (flat-snoc gs ps, append-assoc)
+
+items-append : (o : List ℕ) (ps qs : List Piece) → itemsAfter o (ps ++ qs) ≡ itemsAfter o ps ++ itemsAfter (begunAfter o ps) qs
+unfolding itemsAfter begunAfter
+items-append o [] qs = refl
+items-append o (aTotal n ∷ ps) qs = ap {B = List Item} (λ r. recordItem o ∷ r) (items-append [] ps qs)
+items-append o (aSeparator v ∷ ps) qs = ap {B = List Item} (λ r. separatorItem v ∷ r) (items-append [] ps qs)
+items-append o (aMiddle bs ∷ ps) qs = items-append (o ++ bs) ps qs
+items-append o (aStart bs ∷ ps) qs = items-append bs ps qs
+items-append o (aLast bs ∷ ps) qs = items-append (o ++ bs) ps qs
+items-append o (anEntire bs ∷ ps) qs = ap {B = List Item} (λ r. recordItem bs ∷ r) (items-append [] ps qs)
+
+pub begun-append : (o : List ℕ) (ps qs : List Piece) → begunAfter o (ps ++ qs) ≡ begunAfter (begunAfter o ps) qs
+unfolding begunAfter
+begun-append o [] qs = refl
+begun-append o (aTotal n ∷ ps) qs = begun-append [] ps qs
+begun-append o (aSeparator v ∷ ps) qs = begun-append [] ps qs
+begun-append o (aMiddle bs ∷ ps) qs = begun-append (o ++ bs) ps qs
+begun-append o (aStart bs ∷ ps) qs = begun-append bs ps qs
+begun-append o (aLast bs ∷ ps) qs = begun-append (o ++ bs) ps qs
+begun-append o (anEntire bs ∷ ps) qs = begun-append [] ps qs
+
+run-snoc : {size number : ℕ} {groups : List (List Piece)} {run : List Image} {ps : List Piece} {g : Image} → Run size number groups run →
+    g .number ≡ number + length groups → g .number ≤ lastNumber → Pictured size ps g → Run size number (groups ++ (ps ∷ [])) (run ++ (g ∷ []))
+run-snoc {number} {g} run-none e h f =
+    let i : g .number ≡ number = omega arith in
+    let j : number ≤ lastNumber = omega arith in
+    run-more {plain = f .plain} j i (f .picture) run-none
+run-snoc (run-more a b f r) e h g = run-more a b f (run-snoc r (omega arith) h g)
+
+-- What is held.
+
+pub record Held (first : ℕ) (at : Stand) (sum : ℕ) (w : Desk) (run : List Image) (finished : List Item) (begun : List ℕ) : Type 0 where
+  pub groups : List (List Piece)
+  pub pieces : List Piece
+  pub numbered : w .state .next ≡ first + length groups
+  pub images : Run (w .state .size) first groups run
+  pub walks : Walk at sum Free 0 (grouped groups ++ map piece pieces)
+  pub finishes : itemsAfter [] (flat groups ++ pieces) ≡ finished
+  pub breaks : begunAfter [] (flat groups ++ pieces) ≡ begun
+  pub stands : Buffered (w .state .size) (w .state .filled) (w .state .entries) (w .state .warned) (w .group) pieces
+
+flagged-warn : {b : Bool} {plain n : ℕ} (c : Bool) → Flagged b plain n → Flagged (c || b) plain n
+flagged-warn {n} true clear = set {plain = n} {n = n} (omega arith)
+flagged-warn false clear = clear
+flagged-warn true (set h) = set h
+flagged-warn false (set h) = set h
+
+module _ {first sum : ℕ} {at : Stand} {w : Desk} {run : List Image} {finished : List Item} {begun : List ℕ} where
+  pub held-warn : (b : Bool) → Held first at sum w run finished begun → Held first at sum (desk (warnState b (w .state)) (w .group)) run finished begun
+  unfolding warnState
+  held-warn b h =
+      let s = h .stands in
+      record {
+        groups = h .groups;
+        pieces = h .pieces;
+        numbered = h .numbered;
+        images = h .images;
+        walks = h .walks;
+        finishes = h .finishes;
+        breaks = h .breaks;
+        stands = record { plain = s .plain; flagged = flagged-warn b (s .flagged); counted = s .counted; reached = s .reached; shape = s .shape };
+      }
+
+  pub held-moved : (p : Phase) (m rest : ℕ) → Held first at sum w run finished begun → Held first at sum (moved p m rest w) run finished begun
+  unfolding moved
+  held-moved p m rest h = record { groups = h .groups; pieces = h .pieces; numbered = h .numbered; images = h .images; walks = h .walks; finishes = h .finishes; breaks = h .breaks; stands = h .stands }
+
+  -- One piece more of the open group.
+  module _ (p : Piece) (h : Held first at sum w run finished begun) (f : Fits at sum p) where
+    told : Walk (standAfter at (kindOf p)) (sumAfter (kindOf p) sum (countOf p)) Free 0 (grouped (h .groups) ++ map piece (h .pieces ++ (p ∷ [])))
+    told = rw (map-snoc (h .pieces) p, ← append-assoc (grouped (h .groups)) (map piece (h .pieces)) (piece p ∷ [])) (walk-piece p (h .walks) f)
+
+    told-items : itemsAfter [] (flat (h .groups) ++ (h .pieces ++ (p ∷ []))) ≡ finished ++ itemsAfter begun (p ∷ [])
+    told-items = rw (← append-assoc (flat (h .groups)) (h .pieces) (p ∷ []), items-append [] (flat (h .groups) ++ h .pieces) (p ∷ []), h .finishes, h .breaks)
+
+    told-open : begunAfter [] (flat (h .groups) ++ (h .pieces ++ (p ∷ []))) ≡ begunAfter begun (p ∷ [])
+    told-open = rw (← append-assoc (flat (h .groups)) (h .pieces) (p ∷ []), begun-append [] (flat (h .groups) ++ h .pieces) (p ∷ []), h .breaks)
+
+    pub held-entry : dataOf p ≡ [] → span (w .state .filled) (w .state .entries + 1) ≤ w .state .size →
+        Held first (standAfter at (kindOf p)) (sumAfter (kindOf p) sum (countOf p)) (layEntry (kindOf p) (countOf p) w) run (finished ++ itemsAfter begun (p ∷ [])) (begunAfter begun (p ∷ []))
+    unfolding layEntry
+    held-entry e room = record { groups = h .groups; pieces = h .pieces ++ (p ∷ []); numbered = h .numbered; images = h .images; walks = told; finishes = told-items; breaks = told-open; stands = buffered-entry p e room (h .stands) }
+
+    pub held-part : countOf p ≡ length (dataOf p) → span (w .state .filled + length (dataOf p)) (w .state .entries + 1) ≤ w .state .size →
+        Held first (standAfter at (kindOf p)) (sumAfter (kindOf p) sum (countOf p)) (layPart (kindOf p) (dataOf p) w) run (finished ++ itemsAfter begun (p ∷ [])) (begunAfter begun (p ∷ []))
+    unfolding layPart layData layEntry
+    held-part e room = record { groups = h .groups; pieces = h .pieces ++ (p ∷ []); numbered = h .numbered; images = h .images; walks = told; finishes = told-items; breaks = told-open; stands = rw e at (buffered-part p room (h .stands)) }
+
+  -- The group is shut, and the next call comes with another buffer.
+  pub held-shut : (information g : List ℕ) → Held first at sum w run finished begun → mayFollow at Skip ≡ true → w .state .next ≤ lastNumber → informationLength ≤ w .state .size →
+      span (w .state .filled) (w .state .entries + 1) ≤ w .state .size → length information ≡ informationLength → length g ≡ w .state .size →
+      Held first (standAt (phaseAfter at)) sum (desk (shut w .state) g)
+      (run ++ (imageOf (w .state .next) (w .state .entries + 1) (shut w .group) information ∷ [])) finished begun
+  unfolding shut zeroGap laySkip layEntry imageOf
+  held-shut information g h may low big room l m =
+      let more = length-snoc (h .groups) (h .pieces) in
+      let n = h .numbered in
+      record {
+        groups = h .groups ++ (h .pieces ∷ []);
+        pieces = [];
+        numbered = rw more (omega arith);
+        images = run-snoc (h .images) n low (buffered-shut (w .state .next) information l room (h .stands));
+        walks = rw (append-nil (grouped (h .groups ++ (h .pieces ∷ []))), grouped-snoc (h .groups) (h .pieces)) (walk-end (h .walks) may);
+        finishes = rw (append-nil (flat (h .groups ++ (h .pieces ∷ []))), flat-snoc (h .groups) (h .pieces)) (h .finishes);
+        breaks = rw (append-nil (flat (h .groups ++ (h .pieces ∷ []))), flat-snoc (h .groups) (h .pieces)) (h .breaks);
+        stands = buffered-fresh big m;
+      }

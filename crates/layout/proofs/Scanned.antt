@@ -1,0 +1,106 @@
+-- The scan over the entries of pieces that the grammar takes: it reaches the end of the group.
+-- Assumes nothing.
+use Prim.Native.Nat.{ℕ, zero, suc, _+_, _-_, _≤_}
+use native.Mathlib.Omega.{arith}
+use mathlib.Core.List.{List, [], _∷_, _++_, map}
+use mathlib.Core.Bool.{Bool, true, false, cond, not}
+use mathlib.Core.Path.{_≡_, refl, ap, _∙_}
+use lib.ListN.{length, length-append}
+use lib.Dec.{eqb}
+use borrow.Author.Tests.{le-leb, eq-eqb}
+use Rattle.group.specs.declared.Entry.{Entry}
+use Rattle.group.specs.declared.Kind.{Kind}
+use Rattle.group.specs.declared.Kind.the-variants.{Skip}
+use Rattle.group.specs.Entries.{entry}
+use Rattle.group.specs.Flags.{flagOf}
+use Rattle.group.proofs.Tests.{and}
+use Rattle.group.proofs.FlagLaws.{meaning-of-flag}
+use Rattle.reader.specs.declared.Stand.{Stand}
+use Rattle.reader.specs.declared.Cursor.{Cursor}
+use Rattle.reader.specs.declared.ScanEnd.the-variants.{Reached}
+use Rattle.reader.specs.Rules.{mayFollow, isSkip, standAt, phaseAfter, advance, b4Kept, reachedAfter}
+use Rattle.reader.specs.Scan.{isLast, scan}
+use Rattle.reader.proofs.Faults.{Kept, no-fault}
+use Rattle.layout.specs.Items.{Piece, Token}
+use Rattle.layout.specs.Items.Piece.{aTotal, aSeparator, aMiddle, aStart, aLast, anEntire}
+use Rattle.layout.specs.Items.Token.{piece, groupEnd}
+use Rattle.layout.specs.Layout.{kindOf, countOf, dataOf, userData, b4After, plainLeft, entriesOf}
+use Rattle.layout.proofs.Grammar.{Fits, Walk, Open, take-piece, take-end}
+use Rattle.layout.proofs.Grammar.Walk.{step, leap}
+use Rattle.layout.proofs.Decode.{data-after}
+
+-- No piece is a skip.
+pub no-skip : (p : Piece) → isSkip (kindOf p) ≡ false
+unfolding kindOf
+no-skip (aTotal n) = refl
+no-skip (aSeparator n) = refl
+no-skip (aMiddle n) = refl
+no-skip (aStart n) = refl
+no-skip (aLast n) = refl
+no-skip (anEntire n) = refl
+
+-- b4 stays set.
+still : (plain : ℕ) → b4Kept (b4After plain) (b4After (plainLeft plain)) ≡ true
+unfolding b4After plainLeft
+still zero = refl
+still (suc plain) = refl
+
+-- The rules of a skip and of a piece, kept.
+skip-kept : (size limit : ℕ) (c : Cursor) (warned : Bool) (over : ℕ) → b4Kept (c .warned) warned ≡ true → mayFollow (c .stand) Skip ≡ true → c .reached ≤ limit → over ≡ size - c .reached →
+    Kept size limit true c Skip warned over
+skip-kept size limit c warned over w h l e =
+    record {
+      b4 = w;
+      follow = and {a = mayFollow (c .stand) Skip} {b = isSkip Skip} h refl;
+      counted = refl;
+      room = le-leb (c .reached) limit l;
+      skip = eq-eqb over (size - c .reached) e;
+    }
+
+piece-kept : (size limit : ℕ) (c : Cursor) (warned : Bool) (p : Piece) → b4Kept (c .warned) warned ≡ true → Fits (c .stand) (c .sum) p → c .reached + length (dataOf p) ≤ limit →
+    Kept size limit false c (kindOf p) warned (countOf p)
+piece-kept size limit c warned p w f h =
+    record {
+      b4 = w;
+      follow = and {a = mayFollow (c .stand) (kindOf p)} {b = not (isSkip (kindOf p))} (f .follows) (ap not (no-skip p));
+      counted = f .kept;
+      room = le-leb (reachedAfter (kindOf p) (c .reached) (countOf p)) limit (omega (arith, data-after p (c .reached)));
+      skip = ap (λ (b : Bool). cond b (eqb (countOf p) (size - c .reached)) true) (no-skip p);
+    }
+
+-- An entry whose rules are kept is passed, and the scan goes on behind it.
+pub scan-on : (size limit : ℕ) (es : List Entry) (place : ℕ) (c : Cursor) (k : Kind) (warned : Bool) (count : ℕ) → Kept size limit (isLast es) c k warned count →
+    scan size limit (entry (flagOf k warned) count ∷ es) place c ≡ scan size limit es (suc place) (advance c k warned count)
+unfolding scan
+scan-on size limit es place c k warned count h = rw (meaning-of-flag k warned, no-fault size limit (isLast es) c k warned count h)
+
+-- A scan that reaches the end of the entries, and where the tokens behind it lead to.
+pub record Reaches (size limit : ℕ) (es : List Entry) (place : ℕ) (c : Cursor) (to : Stand) (n : ℕ) (rest : List Token) : Type 0 where
+  pub end : Cursor
+  pub scans : scan size limit es place c ≡ Reached end
+  pub goes : Walk to n (standAt (phaseAfter (end .stand))) (end .sum) rest
+  pub opens : Open (standAt (phaseAfter (end .stand))) (end .sum)
+
+is-last : (plain over : ℕ) (ps : List Piece) → isLast (entriesOf plain over ps) ≡ false
+unfolding entriesOf
+is-last plain over [] = refl
+is-last plain over (p ∷ ps) = refl
+
+reach-on : {to : Stand} {n size limit place : ℕ} {es : List Entry} {rest : List Token} {c : Cursor} (k : Kind) (warned : Bool) (count : ℕ) → Kept size limit (isLast es) c k warned count →
+    Reaches size limit es (suc place) (advance c k warned count) to n rest → Reaches size limit (entry (flagOf k warned) count ∷ es) place c to n rest
+reach-on {size} {limit} {place} {es} {c} k warned count h r =
+    record { end = r .end; scans = scan-on size limit es place c k warned count h ∙ r .scans; goes = r .goes; opens = r .opens }
+
+pub scan-pieces : {to : Stand} {n : ℕ} (size limit : ℕ) (ps : List Piece) (plain over place : ℕ) (c : Cursor) (rest : List Token) →
+    b4Kept (c .warned) (b4After plain) ≡ true → c .reached + length (userData ps) ≤ limit → over ≡ size - (c .reached + length (userData ps)) →
+    Open (c .stand) (c .sum) → Walk to n (c .stand) (c .sum) (map piece ps ++ (groupEnd ∷ rest)) → Reaches size limit (entriesOf plain over ps) place c to n rest
+unfolding scan entriesOf userData
+scan-pieces size limit [] plain over place c rest w l o open′ (leap h g) =
+    reach-on Skip (b4After plain) over (skip-kept size limit c (b4After plain) over w h (omega arith) (omega (arith, o)))
+    (record { end = advance c Skip (b4After plain) over; scans = refl; goes = g; opens = (take-end size open′ h) .opens })
+scan-pieces size limit (p ∷ ps) plain over place c rest w l o open′ (step f g) =
+    let u : length (dataOf p ++ userData ps) ≡ length (dataOf p) + length (userData ps) = length-append (dataOf p) (userData ps) in
+    let v : reachedAfter (kindOf p) (c .reached) (countOf p) ≡ c .reached + length (dataOf p) = data-after p (c .reached) in
+    let kept : Kept size limit false c (kindOf p) (b4After plain) (countOf p) = piece-kept size limit c (b4After plain) p w f (omega arith) in
+    reach-on (kindOf p) (b4After plain) (countOf p) (rw (is-last (plainLeft plain) over ps) kept)
+    (scan-pieces size limit ps (plainLeft plain) over (suc place) (advance c (kindOf p) (b4After plain) (countOf p)) rest (still plain) (omega arith) (omega arith) ((take-piece size open′ p f) .opens) g)

@@ -1,0 +1,213 @@
+-- Not vacuous: for each shape of layout, a lawful one and its acceptance, by computation. L is 64, the first number 1.
+-- Assumes nothing.
+use Prim.Native.Nat.{ℕ, suc, _+_, _*_, _-_, _≤_}
+use native.Mathlib.Omega.{arith}
+use mathlib.Core.List.{List, [], _∷_, _++_}
+use mathlib.Core.Bool.{Bool, true, false, _&&_}
+use mathlib.Core.Path.{_≡_, refl}
+use lib.ListN.{length, length-append, replicate, length-replicate}
+use lib.Dec.{leb, lit≤}
+use borrow.Author.Tests.{leb-true}
+use Rattle.group.specs.Sizes.{lastNumber}
+use Rattle.group.proofs.Tests.{both}
+use Rattle.group.specs.declared.Phase.{Phase}
+use Rattle.group.specs.declared.Phase.the-variants as phase
+use Rattle.group.specs.Store.{put}
+use Rattle.group.specs.Numbers.{numberAt, bytesOf}
+use Rattle.group.specs.Entries.{entryAt, entryBytes, entriesBelow, tableBytes}
+use Rattle.group.specs.Flags.{meaningOf}
+use Rattle.group.specs.State.{runSound, startRefusal}
+use Rattle.group.proofs.EntryLaws.{length-table}
+use Rattle.reader.specs.declared.Reader.{Reader}
+use Rattle.reader.specs.declared.ReaderStart.the-variants as start
+use Rattle.reader.specs.Rules.{mayFollow, entryFault}
+use Rattle.reader.specs.Scan.{scan, rowsFrom}
+use Rattle.reader.specs.Answer.{fresh, readerStartCall, readRefusal, readCall, groupScan, groupRows}
+use Rattle.layout.specs.Items.{Laid, Tail, Piece, Each, SoundLaid, SoundTail, items, soFar, tokens, tailTokens, middles, lateBy, grouped, joined, wholeOf}
+use Rattle.layout.specs.Items.Each.{each-none, each-more}
+use Rattle.layout.specs.Items.Laid.{laidEntire, laidSpanned, laidSeparator, endedEarly}
+use Rattle.layout.specs.Items.Tail.{noneOpen, brokenInside, brokenOwed}
+use Rattle.layout.specs.Items.Piece.{aTotal, aSeparator, aMiddle, aStart, aLast, anEntire}
+use Rattle.layout.specs.Items.SoundLaid.{sound-entire, sound-spanned, sound-separator, sound-early}
+use Rattle.layout.specs.Items.SoundTail.{sound-none, sound-inside, sound-owed}
+use Rattle.layout.specs.Layout.{Image, Pictures, Run, Lays, kindOf, countOf, dataOf, userData, b4After, plainLeft, entriesOf}
+use Rattle.layout.specs.Layout.Run.{run-none, run-more}
+use Rattle.layout.specs.Reading.{pieceOf, piecesFrom, piecesOf, itemsAfter, begunAfter, itemsRead, begunRead}
+use Rattle.layout.specs.Accepting.{Accepts}
+use Rattle.layout.specs.Accepting.Accepts.{accepts-none, accepts-more}
+use Rattle.layout.proofs.Decode.{length-entries}
+
+-- All that a layout and a read compute by.
+unfoldable opens : Unit {0}
+unfolding put numberAt bytesOf entryAt entryBytes entriesBelow tableBytes meaningOf runSound startRefusal mayFollow entryFault scan rowsFrom readerStartCall readRefusal readCall groupScan groupRows items soFar tokens tailTokens middles lateBy grouped joined wholeOf kindOf countOf dataOf userData b4After plainLeft entriesOf pieceOf piecesFrom piecesOf itemsAfter begunAfter
+opens = tt
+
+-- A group of 64 bytes: gap bytes of 7, information bytes of 9, b4 clear in the first `plain` entries.
+unfoldable pub groupOf : ℕ → ℕ → List Piece → Image
+groupOf number plain ps =
+    record {
+      number = number;
+      entries = suc (length ps);
+      bytes =
+          userData ps
+          ++ (replicate (32 - 4 * suc (length ps) - length (userData ps)) 7
+          ++ (tableBytes (entriesOf plain (64 - length (userData ps)) ps) ++ replicate 32 9));
+    }
+
+pictured : (number plain : ℕ) (ps : List Piece) → length (userData ps) + 4 * suc (length ps) ≤ 32 → Pictures 64 plain ps (groupOf number plain ps)
+unfolding groupOf
+pictured number plain ps h =
+    record {
+      gap = replicate (32 - 4 * suc (length ps) - length (userData ps)) 7;
+      information = replicate 32 9;
+      thirtyTwo = refl;
+      counted = refl;
+      filled =
+          simp (length-append, length-replicate)
+          (omega (arith, length-table (entriesOf plain (64 - length (userData ps)) ps), length-entries plain (64 - length (userData ps)) ps));
+      stands = refl;
+    }
+
+-- Groups, each with how many of its entries come before b4, numbered from `number` on.
+unfoldable pub runOf : ℕ → List (ℕ × List Piece) → List Image
+runOf number [] = []
+runOf number (g ∷ gs) = groupOf number (g .0) (g .1) ∷ runOf (suc number) gs
+
+abbrev piecesOfEach : List (ℕ × List Piece) → List (List Piece)
+piecesOfEach [] = []
+piecesOfEach (g ∷ gs) = g .1 ∷ piecesOfEach gs
+
+-- Each has room in 64 bytes, and there are numbers enough.
+unfoldable pub fitting : ℕ → List (ℕ × List Piece) → Bool
+fitting number [] = true
+fitting number (g ∷ gs) = leb number lastNumber && (leb (length (userData (g .1)) + 4 * suc (length (g .1))) 32 && fitting (suc number) gs)
+
+run-of : (number : ℕ) (gs : List (ℕ × List Piece)) → fitting number gs ≡ true → Run 64 number (piecesOfEach gs) (runOf number gs)
+unfolding runOf fitting groupOf
+run-of number [] h = run-none
+run-of number (g ∷ gs) h =
+    let a = both (leb number lastNumber) (leb (length (userData (g .1)) + 4 * suc (length (g .1))) 32 && fitting (suc number) gs) h in
+    let b = both (leb (length (userData (g .1)) + 4 * suc (length (g .1))) 32) (fitting (suc number) gs) (a .1) in
+    run-more (leb-true number lastNumber (a .0)) refl (pictured number (g .0) (g .1) (leb-true (length (userData (g .1)) + 4 * suc (length (g .1))) 32 (b .0))) (run-of (suc number) gs (b .1))
+
+-- A lawful layout that takes these freedoms, its acceptance, and what its rows give.
+pub record Shown (laid : List Laid) (tail : Tail) (groups : List (ℕ × List Piece)) (final : Reader) : Type 0 where
+  pub lays : Lays 64 1 (items laid) (soFar tail) (runOf 1 groups)
+  pub takes : (lays .laid ≡ laid) × (lays .tail ≡ tail)
+  pub rows : List (List ℕ)
+  pub accepts : Accepts (fresh 64 1) (runOf 1 groups) rows final
+  pub items-read : itemsRead (runOf 1 groups) rows ≡ items laid
+  pub begun-read : begunRead (runOf 1 groups) rows ≡ soFar tail
+
+pub starts : readerStartCall 64 1 ≡ start.Started (fresh 64 1)
+unfolding opens
+starts = refl
+
+shown : {laid : List Laid} {tail : Tail} {groups : List (ℕ × List Piece)} {rows : List (List ℕ)} {final : Reader} → Each (SoundLaid 64) laid → SoundTail 64 tail →
+    tokens laid tail ≡ grouped (piecesOfEach groups) → fitting 1 groups ≡ true → Accepts (fresh 64 1) (runOf 1 groups) rows final →
+    itemsRead (runOf 1 groups) rows ≡ items laid → begunRead (runOf 1 groups) rows ≡ soFar tail → Shown laid tail groups final
+shown {laid} {tail} {groups} {rows} sound soundTail groupsOf fits accepts i b =
+    record {
+      lays = record {
+        sized = refl;
+        numbered = refl;
+        laid = laid;
+        tail = tail;
+        groups = piecesOfEach groups;
+        sound = sound;
+        soundTail = soundTail;
+        finishes = refl;
+        breaks = refl;
+        groupsOf = groupsOf;
+        images = run-of 1 groups fits;
+      };
+      takes = (refl, refl);
+      rows = rows;
+      accepts = accepts;
+      items-read = i;
+      begun-read = b;
+    }
+
+-- A state between groups, and rows of other numbers, more than are asked for.
+abbrev at : ℕ → Phase → ℕ → Reader
+at next p sum = record { size = 64; next = next; phase = p; sum = sum }
+
+abbrev old : List ℕ
+old = replicate 30 5
+
+-- An entire record, and separators of both values.
+abbrev mixed : List Piece
+mixed = anEntire (1 ∷ 2 ∷ 3 ∷ []) ∷ aSeparator 0 ∷ aSeparator 1 ∷ []
+
+abbrev mixed-laid : List Laid
+mixed-laid = laidEntire (1 ∷ 2 ∷ 3 ∷ []) ∷ laidSeparator 0 ∷ laidSeparator 1 ∷ endedEarly ∷ []
+
+mixed-shown : {plain : ℕ} {rows : List (List ℕ)} → Accepts (fresh 64 1) (runOf 1 ((plain, mixed) ∷ [])) rows (at 2 phase.Free 0) →
+    itemsRead (runOf 1 ((plain, mixed) ∷ [])) rows ≡ items mixed-laid → begunRead (runOf 1 ((plain, mixed) ∷ [])) rows ≡ [] → Shown mixed-laid noneOpen ((plain, mixed) ∷ []) (at 2 phase.Free 0)
+unfolding opens fitting
+mixed-shown a i b =
+    shown (each-more (sound-entire (lit≤ tt) (lit≤ tt)) (each-more (sound-separator (lit≤ tt)) (each-more (sound-separator (lit≤ tt)) (each-more sound-early each-none)))) sound-none
+    refl refl a i b
+
+-- Entire, separators of both values, an early end; b4 never set.
+pub entire-shown : Shown mixed-laid noneOpen ((9, mixed) ∷ []) (at 2 phase.Free 0)
+unfolding opens groupOf runOf
+entire-shown = mixed-shown {plain = 9} (accepts-more {t = at 2 phase.Free 0} old refl accepts-none) refl refl
+
+-- b4 beginning at each entry of a group, the skip with them.
+pub b4-shown : Each (λ (plain : ℕ). Shown mixed-laid noneOpen ((plain, mixed) ∷ []) (at 2 phase.Free 0)) (0 ∷ 1 ∷ 2 ∷ 3 ∷ [])
+unfolding opens groupOf runOf
+b4-shown =
+    each-more (mixed-shown {plain = 0} (accepts-more {t = at 2 phase.Free 0} old refl accepts-none) refl refl)
+    (each-more (mixed-shown {plain = 1} (accepts-more {t = at 2 phase.Free 0} old refl accepts-none) refl refl)
+    (each-more (mixed-shown {plain = 2} (accepts-more {t = at 2 phase.Free 0} old refl accepts-none) refl refl)
+    (each-more (mixed-shown {plain = 3} (accepts-more {t = at 2 phase.Free 0} old refl accepts-none) refl refl) each-none)))
+
+-- Spanned over three groups, its total in its last part's group; b4 begins anew in each group. A record follows.
+pub spanned-shown : Shown (laidSpanned (1 ∷ 2 ∷ []) ((3 ∷ []) ∷ []) (4 ∷ 5 ∷ []) false ∷ laidEntire (6 ∷ []) ∷ endedEarly ∷ []) noneOpen
+    ((0, aStart (1 ∷ 2 ∷ []) ∷ []) ∷ (1, aMiddle (3 ∷ []) ∷ []) ∷ (2, aLast (4 ∷ 5 ∷ []) ∷ aTotal 5 ∷ anEntire (6 ∷ []) ∷ []) ∷ []) (at 4 phase.Free 0)
+unfolding opens groupOf runOf fitting
+spanned-shown =
+    shown
+    (each-more (sound-spanned (lit≤ tt) (each-more (lit≤ tt) each-none) (lit≤ tt) (lit≤ tt) tt) (each-more (sound-entire (lit≤ tt) (lit≤ tt)) (each-more sound-early each-none))) sound-none
+    refl refl
+    (accepts-more {t = at 2 phase.Inside 2} old refl (accepts-more {t = at 3 phase.Inside 3} old refl (accepts-more {t = at 4 phase.Free 0} old refl accepts-none)))
+    refl refl
+
+-- A late total: a skip after the last part, and the total in the next group.
+pub late-shown : Shown (laidSpanned (1 ∷ []) [] (2 ∷ []) true ∷ endedEarly ∷ []) noneOpen
+    ((9, aStart (1 ∷ []) ∷ []) ∷ (9, aLast (2 ∷ []) ∷ []) ∷ (9, aTotal 2 ∷ []) ∷ []) (at 4 phase.Free 0)
+unfolding opens groupOf runOf fitting
+late-shown =
+    shown (each-more (sound-spanned (lit≤ tt) each-none (lit≤ tt) (lit≤ tt) tt) (each-more sound-early each-none)) sound-none
+    refl refl
+    (accepts-more {t = at 2 phase.Inside 1} old refl (accepts-more {t = at 3 phase.Owed 2} old refl (accepts-more {t = at 4 phase.Free 0} old refl accepts-none)))
+    refl refl
+
+-- Early ends: empty groups, first, between and last.
+pub early-shown : Shown (endedEarly ∷ laidEntire (1 ∷ []) ∷ endedEarly ∷ endedEarly ∷ []) noneOpen ((0, []) ∷ (9, anEntire (1 ∷ []) ∷ []) ∷ (9, []) ∷ []) (at 4 phase.Free 0)
+unfolding opens groupOf runOf fitting
+early-shown =
+    shown (each-more sound-early (each-more (sound-entire (lit≤ tt) (lit≤ tt)) (each-more sound-early (each-more sound-early each-none)))) sound-none
+    refl refl
+    (accepts-more {t = at 2 phase.Free 0} old refl (accepts-more {t = at 3 phase.Free 0} old refl (accepts-more {t = at 4 phase.Free 0} old refl accepts-none)))
+    refl refl
+
+-- Broken off inside a record, after a separator.
+pub inside-shown : Shown (laidSeparator 1 ∷ []) (brokenInside (1 ∷ []) ((2 ∷ 3 ∷ []) ∷ []))
+    ((9, aSeparator 1 ∷ aStart (1 ∷ []) ∷ []) ∷ (9, aMiddle (2 ∷ 3 ∷ []) ∷ []) ∷ []) (at 3 phase.Inside 3)
+unfolding opens groupOf runOf fitting
+inside-shown =
+    shown (each-more (sound-separator (lit≤ tt)) each-none) (sound-inside (lit≤ tt) (each-more (lit≤ tt) each-none) (lit≤ tt))
+    refl refl
+    (accepts-more {t = at 2 phase.Inside 1} old refl (accepts-more {t = at 3 phase.Inside 3} old refl accepts-none))
+    refl refl
+
+-- A total owed at the end.
+pub owed-shown : Shown [] (brokenOwed (1 ∷ []) [] (2 ∷ [])) ((9, aStart (1 ∷ []) ∷ []) ∷ (9, aLast (2 ∷ []) ∷ []) ∷ []) (at 3 phase.Owed 2)
+unfolding opens groupOf runOf fitting
+owed-shown =
+    shown each-none (sound-owed (lit≤ tt) each-none (lit≤ tt) (lit≤ tt) tt)
+    refl refl
+    (accepts-more {t = at 2 phase.Inside 1} old refl (accepts-more {t = at 3 phase.Owed 2} old refl accepts-none))
+    refl refl

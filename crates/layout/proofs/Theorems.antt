@@ -1,0 +1,147 @@
+-- The theorems as they are cited, each under document 01's words for it.
+-- Assumes nothing.
+use Prim.Native.Nat.{ℕ, suc, _+_, _<_}
+use native.Mathlib.Omega.{arith}
+use mathlib.Core.List.{List, [], _∷_, _++_, map}
+use mathlib.Core.Path.{_≡_, sym, _∙_, subst}
+use mathlib.Core.Logic.{_↔_}
+use lib.ListN.{length, getD}
+use Rattle.group.specs.declared.Phase.the-variants as phase
+use Rattle.group.proofs.StateLaws.{started}
+use Rattle.reader.specs.declared.Reader.{Reader}
+use Rattle.reader.specs.declared.ReaderStart.the-variants as start
+use Rattle.reader.specs.Answer.{fresh, readerStartCall}
+use Rattle.writer.specs.Laying.{Desk}
+use Rattle.layout.specs.Items.{Item, Each}
+use Rattle.layout.specs.Layout.{Image, Lays}
+use Rattle.layout.specs.Accepting.{Accepts, Lent}
+use Rattle.layout.specs.Reading.{OfBytes, itemsRead, begunRead}
+use Rattle.layout.specs.Stated.{EndsWith, AcceptedWith, AtEnd, OutOfOrder}
+use Rattle.layout.specs.Writing.{Account, Wrote}
+use Rattle.layout.specs.WritingStated.{GivesBack, TotalsKept}
+use Rattle.layout.specs.BenchTable.{Case, shown, benchTable}
+use Rattle.layout.proofs.Grammar.{tailPlace, tailSum}
+use Rattle.layout.proofs.Complete.{AcceptedTo, begun-at, complete-to, ends-with}
+use Rattle.layout.proofs.OnlyOne.{reading-is, one-reading, enough}
+use Rattle.layout.proofs.Sound.{lawful-from}
+use Rattle.layout.proofs.Order.{first-of, size-after, next-after, number-of, same-state, split, each-before, out-of-order}
+use Rattle.layout.proofs.Returned as written
+use Rattle.layout.proofs.TotalKept as totals
+use Rattle.layout.proofs.Bench as computed
+
+-- "A reader starts with L and the first number": s is the start call's own answer.
+module _ (size first : ℕ) (s : Reader) (begins : readerStartCall size first ≡ start.Started s) where
+  is-fresh : fresh size first ≡ s
+  is-fresh = sym (begun-at size first s begins .1)
+
+  from-fresh : {run : List Image} {rows : List (List ℕ)} {final : Reader} → Accepts s run rows final → Accepts (fresh size first) run rows final
+  from-fresh {run} {rows} {final} a = subst (λ (x : Reader). Accepts x run rows final) (sym is-fresh) a
+
+  accepted-to : {i : List Item} {b : List ℕ} {run : List Image} {lent : List (List ℕ)} (l : Lays size first i b run) → Lent run lent →
+      AcceptedTo s run lent (tailPlace (l .tail)) (tailSum (l .tail))
+  accepted-to {run} {lent} l e = subst (λ (x : Reader). AcceptedTo x run lent (tailPlace (l .tail)) (tailSum (l .tail))) is-fresh (complete-to l e)
+
+  -- "Freedoms of a lawful layout: where a record is broken, where a group ends early with a skip while free, a skip after a
+  -- last, the entry where b4 begins in each group, all gap bytes, the last 32 bytes, and the first group number." Whichever are
+  -- taken, the run is accepted, with any row buffers that are long enough.
+  pub complete : (i : List Item) (b : List ℕ) (run : List Image) (lent : List (List ℕ)) → Lays size first i b run → Lent run lent → AcceptedWith s run lent b
+  complete i b run lent l e =
+      let a = accepted-to l e in
+      record { rows = a .rows; final = a .final; accepts = a .accepts; buffers = a .buffers; ends = ends-with l a }
+
+  -- "A layout is defined from its items and these freedoms to the groups, and not by the reader's or the writer's steps." What
+  -- is accepted is a lawful layout of what its rows and its bytes give. (That each image is made of bytes is what a byte slice
+  -- is.)
+  pub lawful : (run : List Image) (rows : List (List ℕ)) (final : Reader) → Each OfBytes run → Accepts s run rows final →
+      Lays size first (itemsRead run rows) (begunRead run rows) run
+  lawful run rows final b a =
+      let (h, k) = started size first (begun-at size first s begins .0) in
+      lawful-from h k b (from-fresh a)
+
+  -- A run is accepted exactly when some list of records and separators lays out to it. (Of byte slices, as above.)
+  pub exactly : (run : List Image) → Each OfBytes run →
+      ((rows : List (List ℕ)) × ((final : Reader) × Accepts s run rows final)) ↔ ((i : List Item) × ((b : List ℕ) × Lays size first i b run))
+  exactly run b = (
+    λ x. (itemsRead run (x .0), (begunRead run (x .0), lawful run (x .0) (x .1 .0) b (x .1 .1))),
+    λ x. let a = accepted-to (x .1 .1) (enough run) in (a .rows, (a .final, a .accepts)),
+  )
+
+  -- "fills three 32-bit numbers per entry: kind, data offset reached before this entry, count": those numbers and the bytes give
+  -- the items of the run's lawful layout, and the bytes so far of the record that it breaks off.
+  pub read-back : (i : List Item) (b : List ℕ) (run : List Image) (rows : List (List ℕ)) (final : Reader) → Lays size first i b run → Accepts s run rows final →
+      (itemsRead run rows ≡ i) × (begunRead run rows ≡ b)
+  read-back i b run rows final l a = reading-is l (from-fresh a)
+
+  -- "Its state is L, the next number, free / inside / owed, and the sum of parts so far": at the end of a run the sum is the
+  -- number of bytes so far, and the state is free where there are none.
+  pub state-at-end : (i : List Item) (b : List ℕ) (run : List Image) (rows : List (List ℕ)) (final : Reader) → Lays size first i b run → Accepts s run rows final → EndsWith b final
+  state-at-end i b run rows final l a =
+      let c = accepted-to l (enough run) in
+      subst (EndsWith b) (same-state (c .accepts) a) (ends-with l c)
+
+  -- "A record is finished at its entire entry or at its total, and broken off if the run ends before." At every group's end:
+  -- accepted so far, and what the rows give so far is a lawful layout of it and the only one.
+  pub at-each-end : (beginning rest : List Image) (rows : List (List ℕ)) (final : Reader) → Each OfBytes (beginning ++ rest) → Accepts s (beginning ++ rest) rows final →
+      AtEnd size first s beginning rest rows final
+  at-each-end beginning rest rows final b a =
+      let p = split beginning rest a in
+      let l = lawful beginning (p .before) (p .left) (each-before beginning rest b) (p .begins) in
+      record {
+        state = p .left;
+        before = p .before;
+        behind = p .behind;
+        parts = p .parts;
+        accepts = p .begins;
+        goes-on = p .goes-on;
+        lays = l;
+        only = λ i c m. one-reading m l;
+        ends = state-at-end (itemsRead beginning (p .before)) (begunRead beginning (p .before)) beginning (p .before) (p .left) l (p .begins);
+      }
+
+  -- "Numbers then rise by one": in an accepted run the k-th group, k from 0, bears the number first + k.
+  pub numbered : (run : List Image) (rows : List (List ℕ)) (final : Reader) → Accepts s run rows final → (k : ℕ) → k < length run →
+      getD (map (λ (g : Image). g .number) run) k 0 ≡ first + k
+  numbered run rows final a k h = number-of (from-fresh a) k h
+
+  -- "Taking a matching total as proof of order: only the number tells equal middles apart." Any two groups g and h of an accepted
+  -- run are exchanged, numbers with them: the reader refuses the run with 5 at the first place where the order differs, whatever
+  -- the groups hold, equal lengths included.
+  pub exchanged : (a b c : List Image) (g h : Image) (rows : List (List ℕ)) (final : Reader) → Accepts s (a ++ (g ∷ (b ++ (h ∷ c)))) rows final →
+      OutOfOrder s a h (b ++ (g ∷ c))
+  exchanged a b c g h rows final x =
+      let p = split a (g ∷ (b ++ (h ∷ c))) x in
+      let q = split (g ∷ b) (h ∷ c) (p .goes-on) in
+      let later : h .number ≡ p .left .next + suc (length b) = first-of (q .goes-on) .ready .next ∙ next-after (q .begins) in
+      let long : length (h .bytes) ≡ p .left .size = first-of (q .goes-on) .ready .long ∙ size-after (q .begins) in
+      out-of-order a g h (b ++ (g ∷ c)) (p .begins) (first-of (p .goes-on)) long (λ e. omega arith)
+
+-- Of one run there is one reading: two lawful layouts of it have the same items, and the same bytes so far of a record that is
+-- "broken off if the run ends before".
+pub only-one : (size first : ℕ) (i j : List Item) (b c : List ℕ) (run : List Image) → Lays size first i b run → Lays size first j c run → (i ≡ j) × (b ≡ c)
+only-one size first i j b c run l m = one-reading l m
+
+-- What was written: the calls of a writer, their answers and the phase that the caller sees, from the start call's own answer. "A
+-- call either finishes its work, or closes the group and says its number, its entry count and how many bytes it took."
+module _ (size first : ℕ) (w : Desk) (run : List Image) (closed now : Account) (x : Wrote size first w run closed now) where
+  -- The groups closed so far are a lawful layout of what was written up to the last close.
+  pub wrote-lays : Lays size first (closed .finished) (closed .begun) run
+  wrote-lays = written.closed-lays x
+
+  -- "A writer that lays the first call and feigns the others fails demand 3's return of what was written." The groups closed so
+  -- far are accepted, with any row buffers that are long enough, and the rows give back the account at the last close.
+  pub returned : (lent : List (List ℕ)) → Lent run lent → GivesBack size first run lent closed
+  returned lent e = written.gives-back x e
+
+  -- Where the phase is free, nothing is left half-written.
+  pub free-whole : w .state .phase ≡ phase.Free → now .begun ≡ []
+  free-whole e = written.none-begun x e
+
+  -- "With skip the total is owed." "An owed total is laid first by the next accepted call." Every record that spans groups and
+  -- whose bytes were all taken has its total laid, in its last part's group or as the first entry of the next, or is still owed
+  -- at the run's end.
+  pub total-kept : TotalsKept size first run closed
+  total-kept = totals.totals-kept x
+
+-- "The P cases are one theorem over one list": each comes to what is expected of it, every closed group byte for byte.
+pub bench : map (λ (c : Case). shown (c .given)) benchTable ≡ map (λ (c : Case). c .expected) benchTable
+bench = computed.bench

@@ -1,0 +1,50 @@
+-- What the theorems of a reader state where it is more than one fact: the state at an end, an acceptance with given row
+-- buffers, a run at a group's end, and a run out of order.
+-- Assumes nothing.
+use Prim.Native.Nat.{ℕ}
+use mathlib.Core.List.{List, [], _∷_, _++_}
+use mathlib.Core.Path.{_≡_}
+use mathlib.Core.Logic.{_↔_}
+use lib.ListN.{length}
+use Rattle.group.specs.declared.Phase.the-variants as phase
+use Rattle.reader.specs.declared.Reader.{Reader}
+use Rattle.reader.specs.declared.ReadAnswer.the-variants as answer
+use Rattle.reader.specs.Answer.{readCall}
+use Rattle.layout.specs.Items.{Item}
+use Rattle.layout.specs.Layout.{Image, Lays}
+use Rattle.layout.specs.Accepting.{Accepts, lentTo}
+use Rattle.layout.specs.Reading.{itemsRead, begunRead}
+
+-- A reader's state after a run that leaves these bytes of a record: their number is its sum, and it is free where there are none.
+pub record EndsWith (begun : List ℕ) (final : Reader) : Type 0 where
+  pub sum : final .sum ≡ length begun
+  pub free : (final .phase ≡ phase.Free) ↔ (begun ≡ [])
+
+-- A run that is accepted by reads which are lent just these row buffers: the rows that they are left with, and the state.
+pub record AcceptedWith (s : Reader) (run : List Image) (lent : List (List ℕ)) (begun : List ℕ) : Type 0 where
+  pub rows : List (List ℕ)
+  pub final : Reader
+  pub accepts : Accepts s run rows final
+  pub buffers : lentTo accepts ≡ lent
+  pub ends : EndsWith begun final
+
+-- An accepted run at the end of one of its groups: the beginning is accepted, and the rest from there on; what the rows of the
+-- beginning give is a lawful layout of it, and the only one.
+pub record AtEnd (size first : ℕ) (s : Reader) (beginning rest : List Image) (rows : List (List ℕ)) (final : Reader) : Type 0 where
+  pub state : Reader
+  pub before : List (List ℕ)
+  pub behind : List (List ℕ)
+  pub parts : before ++ behind ≡ rows
+  pub accepts : Accepts s beginning before state
+  pub goes-on : Accepts state rest behind final
+  pub lays : Lays size first (itemsRead beginning before) (begunRead beginning before) beginning
+  pub only : (i : List Item) (b : List ℕ) → Lays size first i b beginning → (i ≡ itemsRead beginning before) × (b ≡ begunRead beginning before)
+  pub ends : EndsWith (begunRead beginning before) state
+
+-- A run that is refused with 5 at its group h: the groups before it are accepted; after them, whatever rows were and are lent,
+-- the read of h answers 5, place 0 and the state as given; and the run as a whole is never accepted.
+pub record OutOfOrder (s : Reader) (beginning : List Image) (h : Image) (rest : List Image) : Type 0 where
+  pub accepted : (rows : List (List ℕ)) × ((state : Reader) × Accepts s beginning rows state)
+  pub refused : (rows : List (List ℕ)) (state : Reader) → Accepts s beginning rows state → (old : List ℕ) →
+      readCall state (h .bytes) (h .number) (h .entries) (length old) ≡ answer.Refused state 5 0
+  pub never : (rows : List (List ℕ)) (final : Reader) → Accepts s (beginning ++ (h ∷ rest)) rows final → ⊥

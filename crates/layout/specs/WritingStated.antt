@@ -1,0 +1,55 @@
+-- What the theorems of a writer state where it is more than one fact: a run that gives an account back, and where the totals
+-- stand of records that span groups.
+-- Assumes nothing.
+use Prim.Native.Nat.{ℕ, _≤_}
+use mathlib.Core.List.{List, [], _∷_, _++_}
+use mathlib.Core.Path.{_≡_}
+use lib.ListN.{length}
+use Rattle.reader.specs.declared.Reader.{Reader}
+use Rattle.reader.specs.declared.ReaderStart.the-variants as start
+use Rattle.reader.specs.Answer.{readerStartCall}
+use Rattle.layout.specs.Items.{Piece}
+use Rattle.layout.specs.Items.Piece.{aTotal, aLast}
+use Rattle.layout.specs.Layout.{Image, Run}
+use Rattle.layout.specs.Reading.{begunAfter, itemsRead, begunRead}
+use Rattle.layout.specs.Stated.{AcceptedWith}
+use Rattle.layout.specs.Writing.{Account}
+
+-- A run that is accepted from the reader's own start, by reads which are lent just these row buffers, and the rows that they
+-- are left with give back an account: the items finished, and the bytes so far of the record that is not.
+pub record GivesBack (size first : ℕ) (run : List Image) (lent : List (List ℕ)) (a : Account) : Type 0 where
+  pub reader : Reader
+  pub starts : readerStartCall size first ≡ start.Started reader
+  pub accepted : AcceptedWith reader run lent (a .begun)
+  pub items : itemsRead run (accepted .rows) ≡ a .finished
+  pub begun : begunRead run (accepted .rows) ≡ a .begun
+
+-- The bytes so far of the record that is open after these groups.
+unfoldable pub begunIn : List ℕ → List (List Piece) → List ℕ
+begunIn begun [] = begun
+begunIn begun (ps ∷ gs) = begunIn (begunAfter begun ps) gs
+
+-- After a record's last part, where `whole` is all the record's bytes: by the pieces that follow in its group, and the groups that
+-- follow. "After last: total, or skip. With skip the total is owed." "Total owed at a group's beginning: total only." "A total
+-- equals the sum of its parts." Or the run ends, and the caller has all the bytes as begun and none to offer.
+pub data TotalStands (closed : Account) (whole : List ℕ) : List Piece → List (List Piece) → Type 0 where
+  in-its-group : {n : ℕ} {right : List Piece} {after : List (List Piece)} → n ≡ length whole → TotalStands closed whole (aTotal n ∷ right) after
+  first-in-next : {n : ℕ} {right : List Piece} {after : List (List Piece)} → n ≡ length whole → TotalStands closed whole [] ((aTotal n ∷ right) ∷ after)
+  still-owed : closed .begun ≡ whole → closed .asked ≡ [] → TotalStands closed whole [] []
+
+-- The groups end with a last part.
+pub record EndInLast (groups : List (List Piece)) : Type 0 where
+  pub before : List (List Piece)
+  pub left : List Piece
+  pub lastPart : List ℕ
+  pub ends : groups ≡ before ++ ((left ++ (aLast lastPart ∷ [])) ∷ [])
+
+-- A run that a writer closed, as the pieces of its groups, with the caller's account at its last close: wherever a last part
+-- stands in it, its total is where it must be; and a record not finished whose bytes were all taken has its last part at the
+-- run's end.
+pub record TotalsKept (size first : ℕ) (run : List Image) (closed : Account) : Type 0 where
+  pub groups : List (List Piece)
+  pub images : Run size first groups run
+  pub total : (before after : List (List Piece)) (left right : List Piece) (q : List ℕ) → groups ≡ before ++ ((left ++ (aLast q ∷ right)) ∷ after) →
+      TotalStands closed (begunAfter (begunIn [] before) left ++ q) right after
+  pub allTaken : 1 ≤ length (closed .begun) → closed .asked ≡ [] → EndInLast groups
