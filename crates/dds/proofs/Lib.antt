@@ -1,0 +1,3 @@
+-- The laws that the proofs of this crate share, and those that the crates above cite.
+pub mod SliceLaws
+pub mod Outcomes
