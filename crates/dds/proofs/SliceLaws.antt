@@ -53,7 +53,7 @@ put-standing s at n b h e =
     sym (put-split s at (bytesOf 4 n) (omega arith) ∙ rw (long, stand, append-assoc, ← drop-drop 4 at s, take-append-drop 4 (drop at s)) (take-append-drop at s))
 
 -- The k-th of the numbers that were stored.
-field-of-bytes : (ns : List ℕ) (k : ℕ) → k < length ns → getD ns k 0 < 256 ^ 4 → field (inBytes ns) k ≡ getD ns k 0
+pub field-of-bytes : (ns : List ℕ) (k : ℕ) → k < length ns → getD ns k 0 < 256 ^ 4 → field (inBytes ns) k ≡ getD ns k 0
 unfolding inBytes
 field-of-bytes [] k h f = absurd (not-suc-le-zero h)
 field-of-bytes (n ∷ ns) zero h f = number-of-bytes 4 n (inBytes ns) f
@@ -74,26 +74,26 @@ bytes-of-fields s at (suc n) b h =
     let more : 4 * suc n ≡ 4 + 4 * n = omega arith in
     rw (bytes-of-number 4 s at b (omega arith), bytes-of-fields s (at + 4) n b (omega arith), more, take-add 4 (4 * n) (drop at s), drop-drop 4 at s)
 
-bytes-of-all : (s : List ℕ) (n : ℕ) → Bytes s → length s ≡ 4 * n → inBytes (fields s 0 n) ≡ s
+pub bytes-of-all : (s : List ℕ) (n : ℕ) → Bytes s → length s ≡ 4 * n → inBytes (fields s 0 n) ≡ s
 bytes-of-all s n b h = bytes-of-fields s 0 n b (omega arith) ∙ take-all (4 * n) s (omega arith)
 
 -- A phase and b4 from their numbers and back.
-phase-of-number : (p : Phase) → phaseOf (phaseNumber p) ≡ p
+pub phase-of-number : (p : Phase) → phaseOf (phaseNumber p) ≡ p
 phase-of-number Free = refl
 phase-of-number Inside = refl
 phase-of-number Owed = refl
 
-number-of-phase : (n : ℕ) → phaseMeant n ≡ true → phaseNumber (phaseOf n) ≡ n
+pub number-of-phase : (n : ℕ) → phaseMeant n ≡ true → phaseNumber (phaseOf n) ≡ n
 number-of-phase zero e = refl
 number-of-phase (suc zero) e = refl
 number-of-phase (suc (suc zero)) e = refl
 number-of-phase (suc (suc (suc n))) e = absurd (omega (arith, leb-true (suc (suc (suc n))) 2 e))
 
-b4-of-number : (b : Bool) → b4Set (b4Number b) ≡ b
+pub b4-of-number : (b : Bool) → b4Set (b4Number b) ≡ b
 b4-of-number false = refl
 b4-of-number true = refl
 
-number-of-b4 : (n : ℕ) → b4Meant n ≡ true → b4Number (b4Set n) ≡ n
+pub number-of-b4 : (n : ℕ) → b4Meant n ≡ true → b4Number (b4Set n) ≡ n
 number-of-b4 zero e = refl
 number-of-b4 (suc zero) e = refl
 number-of-b4 (suc (suc n)) e = absurd (omega (arith, leb-true (suc (suc n)) 1 e))
