@@ -81,9 +81,9 @@ pub(crate) fn writer_meant(slice: &[u8], warn: u32) -> bool
     warn <= 1
 }
 
-// The state that a reader's slice holds.
+// The state that a reader's slice holds, and that a writer's begins with.
 pub(crate) fn reader_of(slice: &[u8]) -> Reader
-    requires { ⌜ length (now slice) ≡ readerLength ⌝ }
+    requires { ⌜ readerLength ≤ length (now slice) ⌝ }
     ensures { λ r. ⌜ r ≡ readerOf (now (slice .entry)) ⌝ }
 {
     Reader {
@@ -94,17 +94,20 @@ pub(crate) fn reader_of(slice: &[u8]) -> Reader
     }
 }
 
-// The state that a writer's slice holds.
-pub(crate) fn writer_of(slice: &[u8]) -> Writer
+// The state that a writer's slice holds. What it has in common with a reader's is handed over: four numbers are few enough to
+// be read where the call is.
+pub(crate) fn writer_of(run: Reader, slice: &[u8]) -> Writer
     requires { ⌜ length (now slice) ≡ writerLength ⌝ }
+    requires { ⌜ run ≡ readerOf (now slice) ⌝ }
     ensures { λ r. ⌜ r ≡ writerOf (now (slice .entry)) ⌝ }
 {
+    let phase = run.phase;
     Writer {
-        size: numbers::number_at(slice, 0),
-        next: numbers::number_at(slice, 4),
-        phase: phase_of(numbers::number_at(slice, 8)),
+        size: run.size,
+        next: run.next,
+        phase,
         warned: numbers::number_at(slice, 24) == 1,
-        sum: numbers::number_at(slice, 12),
+        sum: run.sum,
         rest: numbers::number_at(slice, 28),
         filled: numbers::number_at(slice, 16),
         entries: numbers::number_at(slice, 20),

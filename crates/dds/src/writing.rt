@@ -88,7 +88,8 @@ pub extern "C" fn dds_record(
     if refused(state, warn, answer) {
         return 1;
     }
-    let writer = slices::writer_of(state);
+    let run = slices::reader_of(state);
+    let writer = slices::writer_of(run, state);
     let done = writer.record(group, data, warn == 1);
     finish(state, answer, done)
 }
@@ -106,7 +107,8 @@ pub extern "C" fn dds_separator(
     if refused(state, warn, answer) {
         return 1;
     }
-    let writer = slices::writer_of(state);
+    let run = slices::reader_of(state);
+    let writer = slices::writer_of(run, state);
     let done = writer.separator(group, value, warn == 1);
     finish(state, answer, done)
 }
@@ -118,7 +120,8 @@ pub extern "C" fn dds_end(state: &mut [u8], group: &mut [u8], warn: u32, answer:
     if refused(state, warn, answer) {
         return 1;
     }
-    let writer = slices::writer_of(state);
+    let run = slices::reader_of(state);
+    let writer = slices::writer_of(run, state);
     let done = writer.end(group, warn == 1);
     finish(state, answer, done)
 }

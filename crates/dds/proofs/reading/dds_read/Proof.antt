@@ -47,7 +47,7 @@ dds-read-spec =
     (λ c. search needs)
     (λ c. search needs)
     by-meaning
-    (λ c κs. long (c .before .before .before .before) .0)
+    (λ c κs. omega (arith, long (c .before .before .before .before) .0))
     (λ c κs. search needs)
     (λ c κs. long (c .before .before .before .before .before .before .before .before .before .before .before))
     (λ c. search needs)

@@ -21,10 +21,10 @@ by-slices c = stopped _ (c .if1 .taken) (c .before .before .before .refused .ens
 answers : tie.Need-returns-2
 unfolding ddsSeparator writing
 answers c =
-    let a = c .before .before .before .before .before .before .before .before .before .before .before .before .before .before .before .before .before .before .before .before .before .before .args in
+    let a = c .before .before .before .before .before .before .before .before .before .before .before .before .before .before .before .before .before .before .before .before .before .before .before .before .args in
     let r = c .before .before .before .before .before .before .before .before .before .separator .ensures in
     c .before .before .before .before .finish .ensures _ ∙ write-left (separatorCall (a .value) (b4Set (a .warn))) _ _ _ _ _ (c .before .before .before .before .before .before .before .before .before .before .before .writer-of .ensures) (r .0) (r .1)
-    ∙ went-on _ (c .before .before .before .before .before .before .before .before .before .before .before .before .before .if1 .left) (c .before .before .before .before .before .before .before .before .before .before .before .before .before .before .before .before .refused .ensures .0 _ _)
+    ∙ went-on _ (c .before .before .before .before .before .before .before .before .before .before .before .before .before .before .before .if1 .left) (c .before .before .before .before .before .before .before .before .before .before .before .before .before .before .before .before .before .before .refused .ensures .0 _ _)
 
 pub dds-separator-spec : {M : Type 1} → statement M
 dds-separator-spec =
@@ -34,9 +34,10 @@ dds-separator-spec =
     (λ c. search needs)
     (λ c. search needs)
     by-slices
-    (λ c κs. long (c .before) .0)
+    (λ c κs. omega (arith, long (c .before) .0))
+    (λ c κs. (long (c .before .before .before) .0, c .before .reader-of .ensures))
     (λ c κs. search needs)
-    (λ c κs. long (c .before .before .before .before .before .before .before .before))
+    (λ c κs. long (c .before .before .before .before .before .before .before .before .before .before))
     (λ c. search needs)
     (λ c. search needs)
     (λ c. search needs)
