@@ -1,0 +1,23 @@
+-- `put_reader` meets its contract: four numbers, one after another. Assumes nothing.
+use borrow.Author.Needs.{needs}
+use Rattle.dds.specs.Slices.{readerNumbers}
+use Rattle.dds.proofs.SliceLaws.{puts-whole}
+use Rattle.dds.proofs.slices.put_reader.Statement.{statement}
+use Rattle.dds.proofs.slices.put_reader.Tie as tie
+
+returns : tie.Need-returns
+returns c =
+    let s = c .before .before .before .before .before .before .before .before .before .before .before .before .before .before .before .before .before .before in
+    rw (c .before .before .keep4 .ensures, c .before .before .before .before .before .before .keep3 .ensures, c .before .before .before .before .before .before .before .before .before .before .keep2 .ensures, c .before .before .before .before .before .before .before .before .before .before .before .before .before .before .keep .ensures, c .before .before .before .before .before .before .before .before .before .before .before .before .before .before .before .before .phase-number .ensures) (puts-whole (s .args .slice .now) (readerNumbers (s .args .r)) (s .pre))
+
+pub put-reader-spec : {M : Type 1} → statement M
+put-reader-spec =
+    tie.close
+    (tie.spec
+    (λ c κs. search needs)
+    (λ c κs. search needs)
+    (λ c κs. search needs)
+    (λ c κs. search needs)
+    (λ c κs. search needs)
+    (λ c. search needs)
+    returns)

@@ -1,0 +1,127 @@
+// A writer from C: its start, a record, a separator and the end.
+ghost use mathlib.Core.Path.{_≡_};
+ghost use mathlib.Core.Bool.{false, cond, _&&_};
+ghost use mathlib.Core.List.{List, []};
+ghost use Prim.Native.Nat.{ℕ};
+ghost use lib.ListN.{length};
+ghost use Rattle.writer.specs.Calls.{told};
+ghost use Rattle.dds.specs.Slices.{writerLength, answerLength, lengthsKept, b4Meant, writerMeant};
+ghost use Rattle.dds.specs.Calls.{Outcome, outcome, answered, ofLengths, ofMeaning, writeState};
+ghost use Rattle.dds.specs.Calls.{ddsWriterStart, ddsRecord, ddsSeparator, ddsEnd};
+use crate::slices;
+use writer::WriteAnswer;
+use writer::Writer;
+use writer::WriterStart;
+
+#[no_mangle]
+pub extern "C" fn dds_writer_start(
+    size: u32,
+    first: u32,
+    state: &mut [u8],
+    answer: &mut [u8],
+) -> u32
+    ensures { λ r. ⌜ outcome r (now (state .exit)) [] (now (answer .exit)) ≡ ddsWriterStart size first (now (state .entry)) (now (answer .entry)) ⌝ }
+{
+    if !slices::lengths_kept(state.len(), slices::WRITER_LENGTH, answer.len()) {
+        return 1;
+    }
+    let start = Writer::start(size, first);
+    match start {
+        WriterStart::Started(writer) => {
+            slices::put_writer(state, writer);
+            slices::put_answer(answer, 0, 0, 0, 0, 0, 0)
+        }
+        WriterStart::Refused(number) => slices::put_answer(answer, number, 0, 0, 0, 0, 0),
+    }
+}
+
+// What a call leaves in the state and the answer, and what it returns.
+fn finish(state: &mut [u8], answer: &mut [u8], done: WriteAnswer) -> u32
+    requires { ⌜ (length (now state) ≡ writerLength) × (length (now answer) ≡ answerLength) ⌝ }
+    ensures { λ r. ⌜ ((lent : List ℕ) → outcome r (now (state .exit)) lent (now (answer .exit)) ≡ answered (told done) (writeState done (now (state .entry))) lent) ⌝ }
+{
+    match done {
+        WriteAnswer::Finished(writer) => {
+            slices::put_writer(state, writer);
+            slices::put_answer(answer, 0, 0, 0, 0, 0, 0)
+        }
+        WriteAnswer::Closed {
+            state: writer,
+            number,
+            entries,
+            taken,
+        } => {
+            slices::put_writer(state, writer);
+            slices::put_answer(answer, 0, 0, 1, number, entries, taken)
+        }
+        WriteAnswer::Refused { state: _, number } => {
+            slices::put_answer(answer, number, 0, 0, 0, 0, 0)
+        }
+    }
+}
+
+// Whether the slices refuse a call: by a length, with nothing written, or by a number that has no meaning, with the answer.
+fn refused(state: &[u8], warn: u32, answer: &mut [u8]) -> bool
+    ensures { λ r. ⌜ ((lent : List ℕ) (done : Outcome) → cond r (outcome 1 (now (state .entry)) lent (now (answer .exit))) done ≡ ofLengths (lengthsKept (length (now (state .entry))) writerLength (length (now (answer .entry)))) (now (state .entry)) lent (now (answer .entry)) (ofMeaning (writerMeant (now (state .entry)) && b4Meant warn) (now (state .entry)) lent done)) ⌝ }
+    ensures { λ r. ⌜ (r ≡ false → (length (now (state .entry)) ≡ writerLength) × (length (now (answer .exit)) ≡ answerLength)) ⌝ }
+{
+    if !slices::lengths_kept(state.len(), slices::WRITER_LENGTH, answer.len()) {
+        return true;
+    }
+    if !slices::writer_meant(state, warn) {
+        slices::put_answer(answer, 1, 0, 0, 0, 0, 0);
+        return true;
+    }
+    false
+}
+
+#[no_mangle]
+pub extern "C" fn dds_record(
+    state: &mut [u8],
+    group: &mut [u8],
+    data: &[u8],
+    warn: u32,
+    answer: &mut [u8],
+) -> u32
+    ensures { λ r. ⌜ outcome r (now (state .exit)) (now (group .exit)) (now (answer .exit)) ≡ ddsRecord (now (state .entry)) (now (group .entry)) (now («data» .entry)) warn (now (answer .entry)) ⌝ }
+{
+    if refused(state, warn, answer) {
+        return 1;
+    }
+    let run = slices::reader_of(state);
+    let writer = slices::writer_of(run, state);
+    let done = writer.record(group, data, warn == 1);
+    finish(state, answer, done)
+}
+
+#[no_mangle]
+pub extern "C" fn dds_separator(
+    state: &mut [u8],
+    group: &mut [u8],
+    value: u32,
+    warn: u32,
+    answer: &mut [u8],
+) -> u32
+    ensures { λ r. ⌜ outcome r (now (state .exit)) (now (group .exit)) (now (answer .exit)) ≡ ddsSeparator (now (state .entry)) (now (group .entry)) value warn (now (answer .entry)) ⌝ }
+{
+    if refused(state, warn, answer) {
+        return 1;
+    }
+    let run = slices::reader_of(state);
+    let writer = slices::writer_of(run, state);
+    let done = writer.separator(group, value, warn == 1);
+    finish(state, answer, done)
+}
+
+#[no_mangle]
+pub extern "C" fn dds_end(state: &mut [u8], group: &mut [u8], warn: u32, answer: &mut [u8]) -> u32
+    ensures { λ r. ⌜ outcome r (now (state .exit)) (now (group .exit)) (now (answer .exit)) ≡ ddsEnd (now (state .entry)) (now (group .entry)) warn (now (answer .entry)) ⌝ }
+{
+    if refused(state, warn, answer) {
+        return 1;
+    }
+    let run = slices::reader_of(state);
+    let writer = slices::writer_of(run, state);
+    let done = writer.end(group, warn == 1);
+    finish(state, answer, done)
+}
