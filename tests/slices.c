@@ -283,7 +283,6 @@ static void fences(void)
     for (end = 0; end < 2; end++) {
         uint8_t *r = fenced(16, end), *w = fenced(32, end), *g = fenced(64, end), *rows = fenced(36, end), *a = fenced(24, end);
         uint8_t *data = fenced(44, end);
-        stage s = reader(64, 1, 0, 0);
         check(dds_reader_start(64, 1, r, 16, a, 24) == 0 && dds_writer_start(64, 1, w, 32, a, 24) == 0, "fences", "start");
         memset(data, 0x55, 44);
         read_only(data);
@@ -293,7 +292,6 @@ static void fences(void)
         read_only(g);
         check(dds_read(r, 16, g, 64, 2, 3, rows, 36, a, 24) == 0 && get(rows + 20) == 44, "fences", "read a last and its total");
         check(dds_read(r, 16, g, 64, 3, 3, rows, 36, a, 24) == 10 && get(a + 4) == 1, "fences", "read a last while free");
-        leave(&s);
     }
 }
 
