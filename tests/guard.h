@@ -1,6 +1,6 @@
 /* What the hand-written tests share: slices with guard bytes, each in its own allocation, the six calls made on them,
    and what may be expected of a call. Expected bytes are texts of hexadecimal bytes worked out from document 01:
-   `41*20` is twenty bytes 41, `01-18` the bytes 01, 02 .. 18. */
+   `41*20` is twenty bytes 41, `01-18` the bytes 01, 02 .. 18, `01+300` three hundred bytes 01, 02 .. FF, 00, 01 .. */
 
 #ifndef GUARD_H
 #define GUARD_H
@@ -101,6 +101,7 @@ static inline uint8_t *bytes(const char *text, size_t *len)
         if (next != text + 2) { fprintf(stderr, "a test's text is wrong: %s\n", text); exit(2); }
         if (*next == '*') { text = next + 1; times = strtoul(text, &next, 10); }
         else if (*next == '-') { text = next + 1; end = strtoul(text, &next, 16); }
+        else if (*next == '+') { text = next + 1; end = first + strtoul(text, &next, 10) - 1; }
         out = realloc(out, n + times * (end - first + 1) + 1);
         if (!out) exit(2);
         for (b = first; b <= end; b++) for (t = 0; t < times; t++) out[n++] = (uint8_t)b;
