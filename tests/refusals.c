@@ -16,6 +16,8 @@ static void start_refusals(void)
     size_t i;
     for (i = 0; i < sizeof cases / sizeof *cases; i++) {
         stage r = reader(64, 1, 0, 0), w = writer(64, 1, 0, 0, 0, 0, 0, 0);
+        relend(&r.state, 16);
+        relend(&w.state, 32);
         reader_starts(&r, cases[i].size, cases[i].first);
         writer_starts(&w, cases[i].size, cases[i].first);
         if (cases[i].refusal) {
