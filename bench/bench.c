@@ -1,8 +1,8 @@
 /* The library beside plain C built with -O2 and with -O3, and writing beside memcpy of the same bytes, in one run, at
    the standard size. Best of many interleaved repetitions, as ratios. Three uses:
-     bench time [COUNTS]      the table; COUNTS is a file of lines "work who instructions", made by bench/run
-     bench count WORK WHO     one repetition, for callgrind; prints how many groups it read or records it wrote
-     bench works              the names of the works, each with the call it measures */
+     bench time COUNTS ROUNDS  the table, best of so many; COUNTS is a file of lines "work who instructions"
+     bench count WORK WHO      one repetition, for callgrind; prints how many groups it read or records it wrote
+     bench works               the names of the works, each with the call it measures */
 
 #define _POSIX_C_SOURCE 199309L
 #include <stdio.h>
@@ -240,9 +240,9 @@ int main(int argc, char **argv)
                 }
         return 2;
     }
-    if (argc < 2 || strcmp(argv[1], "time")) { fprintf(stderr, "bench time [COUNTS] | bench count WORK WHO | bench works\n"); return 2; }
-    if (argc > 2) load_counts(argv[2]);
-    for (i = 0; i < WORKS; i++) measure(i, works[i].length > BYTES ? 101 : 301);
+    if (argc != 4 || strcmp(argv[1], "time")) { fprintf(stderr, "bench time COUNTS ROUNDS | bench count WORK WHO | bench works\n"); return 2; }
+    load_counts(argv[2]);
+    for (i = 0; i < WORKS; i++) measure(i, works[i].length > BYTES ? atoi(argv[3]) / 3 + 1 : atoi(argv[3]));
     table();
     free(source);
     return 0;

@@ -145,6 +145,49 @@ static void record_inside(void)
     }
 }
 
+/* the same three at the standard size, after 1,000 bytes: L - 44, L - 43, L - 40 and L - 39 */
+static void record_inside_standard(void)
+{
+    static const struct { uint32_t n; const char *group; uint32_t taken, phase, sum, rest; } cases[] = {
+        { 126588, "01+126588 EE*4 01 01 F2 64 60 01 EE 7C EE*32", 0, 0, 0, 0 },
+        { 126589, "01+126589 00*3 80 00 00 2B 60 01 EE 7D EE*32", 126589, 2, 127589, 0 },
+        { 126592, "01+126592 80 00 00 28 60 01 EE 80 EE*32", 126592, 2, 127592, 0 },
+        { 126593, "01+126592 80 00 00 28 40 01 EE 80 EE*32", 126592, 1, 127592, 1 },
+    };
+    size_t i;
+    for (i = 0; i < sizeof cases / sizeof *cases; i++) {
+        stage s = writer(126632, 9, 1, 1000, 0, 0, 0, cases[i].n);
+        offer(&s, cases[i].n);
+        records(&s, 0);
+        if (cases[i].taken) {
+            closed(&s, "record inside, standard size", 9, 2, cases[i].taken);
+            STATE_IS(&s, "record inside, standard size", 126632, 10, cases[i].phase, cases[i].sum, 0, 0, 0, cases[i].rest);
+        } else {
+            finished(&s, "record inside, standard size");
+            STATE_IS(&s, "record inside, standard size", 126632, 9, 0, 0, cases[i].n, 2, 0, 0);
+        }
+        group_is(&s, "record inside, standard size", cases[i].group);
+        leave(&s);
+    }
+}
+
+/* as many separators as the standard's size has place for, 31,649; the next one closes */
+static void separators_standard(void)
+{
+    uint32_t k, good = 1;
+    stage s = writer(126632, 9, 0, 0, 0, 0, 0, 0);
+    for (k = 1; k <= 31649; k++) {
+        good &= dds_separator(s.state.at, 32, s.group.at, 126632, k % 2, 0, s.answer.at, 24) == 0 && get(s.answer.at + 8) == 0;
+        good &= get(s.group.at + 126600 - 4 * k) == 0x07000000 + k % 2;
+    }
+    check((int)good, "31,649 separators", "each is laid");
+    STATE_IS(&s, "31,649 separators", 126632, 9, 0, 0, 0, 31649, 0, 0);
+    separates(&s, 0, 0);
+    closed(&s, "31,649 separators", 9, 31650, 0);
+    check(get(s.group.at) == 0x8001EEA8 && get(s.group.at + 4) == 0x07000001, "31,649 separators", "the skip stands at 0");
+    leave(&s);
+}
+
 /* readings 22 and 30: an owed total of 45 laid first by each call, with the b4 of that call, and counted in e */
 static void owed_total(void)
 {
@@ -292,6 +335,8 @@ int main(void)
     record_by_room();
     separator_by_room();
     record_inside();
+    record_inside_standard();
+    separators_standard();
     owed_total();
     early_warning();
     end_of_run();

@@ -257,6 +257,33 @@ static void follow(void)
         }
 }
 
+/* the standard's size: as many entries as there can be, 31,650, and one more */
+static void largest_table(void)
+{
+    uint32_t k;
+    stage s = reader(126632, 7, 0, 0);
+    for (k = 1; k < 31650; k++) put(s.group.at + 126600 - 4 * k, 0x07000000 + k % 2);
+    put(s.group.at, 0x8001EEA8);
+    relend(&s.rows, 379800);
+    reads(&s, 7, 31651);
+    refused(&s, "31,651 entries", 6, 0);
+    put(s.group.at, 0x8001EEA7);
+    reads(&s, 7, 31650);
+    refused(&s, "31,650 entries, the last one wrong", 13, 31650);
+    put(s.group.at, 0x8001EEA8);
+    relend(&s.rows, 379799);
+    reads(&s, 7, 31650);
+    refused(&s, "31,650 entries, a row byte short", 7, 0);
+    relend(&s.rows, 379800);
+    reads(&s, 7, 31650);
+    finished(&s, "31,650 entries");
+    STATE_IS(&s, "31,650 entries", 126632, 8, 0, 0);
+    for (k = 1; k < 31650; k++)
+        check(get(s.rows.at + 12 * k - 12) == 2 && get(s.rows.at + 12 * k - 8) == 0 && get(s.rows.at + 12 * k - 4) == k % 2, "31,650 entries", "row");
+    check(get(s.rows.at + 379788) == 7 && get(s.rows.at + 379792) == 0 && get(s.rows.at + 379796) == 126632, "31,650 entries", "skip");
+    leave(&s);
+}
+
 int main(void)
 {
     reading_13();
@@ -270,5 +297,6 @@ int main(void)
     reading_21();
     flags();
     follow();
+    largest_table();
     return finish("reading");
 }
