@@ -234,6 +234,50 @@ static void owed_total(void)
     leave(&s);
 }
 
+/* sizes that are no multiple of four: the table goes with the group's end, not with its beginning */
+static void odd_sizes(void)
+{
+    stage s = writer(67, 9, 0, 0, 0, 0, 0, 0);
+    offer(&s, 28);
+    records(&s, 0);
+    closed(&s, "L = 67, start", 9, 2, 27);
+    group_is(&s, "L = 67, start", "01-1B 80 00 00 28 42 00 00 1B EE*32");
+    STATE_IS(&s, "L = 67, start", 67, 10, 1, 27, 0, 0, 0, 1);
+    leave(&s);
+    s = writer(67, 9, 1, 27, 0, 0, 0, 23);
+    offer(&s, 23);
+    records(&s, 0);
+    finished(&s, "L = 67, last of L - 44");
+    group_is(&s, "L = 67, last of L - 44", "01-17 EE*4 01 00 00 32 60 00 00 17 EE*32");
+    STATE_IS(&s, "L = 67, last of L - 44", 67, 9, 0, 0, 23, 2, 0, 0);
+    leave(&s);
+    s = writer(67, 9, 1, 27, 0, 0, 0, 24);
+    offer(&s, 24);
+    records(&s, 0);
+    closed(&s, "L = 67, last of L - 43", 9, 2, 24);
+    group_is(&s, "L = 67, last of L - 43", "01-18 00*3 80 00 00 2B 60 00 00 18 EE*32");
+    STATE_IS(&s, "L = 67, last of L - 43", 67, 10, 2, 51, 0, 0, 0, 0);
+    leave(&s);
+    s = writer(67, 9, 0, 0, 0, 6, 0, 0);
+    separates(&s, 1, 0);
+    finished(&s, "L = 67, seventh separator");
+    group_is(&s, "L = 67, seventh separator", "EE*7 07 00 00 01 EE*24 EE*32");
+    separates(&s, 1, 0);
+    closed(&s, "L = 67, eighth separator", 9, 8, 0);
+    group_is(&s, "L = 67, eighth separator", "00*3 80 00 00 43 07 00 00 01 EE*24 EE*32");
+    leave(&s);
+    s = writer(65, 9, 2, 45, 0, 0, 0, 0);
+    ends(&s, 0);
+    group_is(&s, "L = 65, owed total", "00*25 80 00 00 41 01 00 00 2D EE*32");
+    leave(&s);
+    s = writer(66, 9, 0, 0, 25, 1, 1, 0);
+    offer(&s, 1);
+    records(&s, 0);
+    closed(&s, "L = 66, no room", 9, 2, 0);
+    group_is(&s, "L = 66, no room", "EE*25 00*1 88 00 00 29 EE*4 EE*32");
+    leave(&s);
+}
+
 static void early_warning(void)
 {
     stage s = writer(64, 3, 0, 0, 21, 1, 0, 0);
@@ -338,6 +382,7 @@ int main(void)
     record_inside_standard();
     separators_standard();
     owed_total();
+    odd_sizes();
     early_warning();
     end_of_run();
     last_numbers();
