@@ -1,0 +1,249 @@
+/* The library beside plain C built with -O2 and with -O3, and writing beside memcpy of the same bytes, in one run, at
+   the standard size. Best of many interleaved repetitions, as ratios. Three uses:
+     bench time COUNTS ROUNDS  the table, best of so many; COUNTS is a file of lines "work who instructions"
+     bench count WORK WHO      one repetition, for callgrind; prints how many groups it read or records it wrote
+     bench works               the names of the works, each with the call it measures */
+
+#define _POSIX_C_SOURCE 199309L
+#include <stdio.h>
+#include <stdlib.h>
+#include <string.h>
+#include <time.h>
+
+#include "dds.h"
+
+#define L DDS_SIZE_STANDARD
+#define IMAGES 16              /* groups of one kind, read in turn */
+#define WHO 3                  /* the library, plain C -O2, plain C -O3 */
+#define BYTES (4u << 20)       /* bytes written in one repetition, or one record if it is longer */
+#define MOST_PIECES (BYTES / 100 + 4096)
+
+typedef uint32_t read_call(uint8_t *, size_t, const uint8_t *, size_t, uint32_t, uint32_t, uint8_t *, size_t, uint8_t *, size_t);
+typedef uint32_t record_call(uint8_t *, size_t, uint8_t *, size_t, const uint8_t *, size_t, uint32_t, uint8_t *, size_t);
+extern read_call plain2_read, plain3_read;
+extern record_call plain2_record, plain3_record;
+
+static const char *const who_name[WHO] = { "dds", "plain2", "plain3" };
+static read_call *const reads[WHO] = { dds_read, plain2_read, plain3_read };
+static record_call *const records[WHO] = { dds_record, plain2_record, plain3_record };
+
+/* a reading work has entries, a writing work a record length; `most` is the ratio wanted, 0 where none is set */
+typedef struct { const char *name; uint32_t entries; int mixed; uint32_t length; double most; } work;
+static const work works[] = {
+    { "read-2", 2, 0, 0, 1.0 }, { "read-100-regular", 100, 0, 0, 1.0 }, { "read-100-mixed", 100, 1, 0, 1.0 },
+    { "read-30000-regular", 30000, 0, 0, 1.0 }, { "read-30000-mixed", 30000, 1, 0, 1.0 },
+    { "write-100", 0, 0, 100, 2.0 }, { "write-1024", 0, 0, 1024, 0 }, { "write-65536", 0, 0, 65536, 1.15 },
+    { "write-126592", 0, 0, 126592, 1.15 }, { "write-16777215", 0, 0, 16777215, 1.15 },
+};
+#define WORKS ((int)(sizeof works / sizeof *works))
+
+static uint8_t images[IMAGES][L], rows[12 * 31650], other_rows[12 * 31650], group[L], other_group[L], *source;
+static uint8_t reader_fresh[16], writer_fresh[32], state[32], answer[24];
+
+static uint64_t seed = 0x9E3779B97F4A7C15u;
+static uint32_t below(uint32_t n)
+{
+    seed ^= seed << 13;
+    seed ^= seed >> 7;
+    seed ^= seed << 17;
+    return (uint32_t)((seed >> 32) * n >> 32);
+}
+
+static uint32_t number(const uint8_t *p) { return (uint32_t)p[0] << 24 | (uint32_t)p[1] << 16 | (uint32_t)p[2] << 8 | (uint32_t)p[3]; }
+
+static double now(void)
+{
+    struct timespec t;
+    clock_gettime(CLOCK_MONOTONIC, &t);
+    return (double)t.tv_sec * 1e9 + (double)t.tv_nsec;
+}
+
+static void wrong(const char *name, const char *what)
+{
+    printf("%s: %s\n", name, what);
+    exit(1);
+}
+
+/* ---- Reading */
+
+/* Lawful tables. Regular: four separators and a record, over and over. Mixed: one in five a record, at random. */
+static void make_images(const work *w)
+{
+    uint32_t i, k, n = w->entries, part = n == 2 ? L - 40 : n == 100 ? 3000 : 1, room = L - 32 - 4 * n;
+    for (i = 0; i < IMAGES; i++) {
+        uint32_t data = 0;
+        memset(images[i], 0x41, L);
+        for (k = 1; k <= n; k++) {
+            uint8_t *e = images[i] + L - 32 - 4 * k;
+            int record = w->mixed ? below(5) == 0 : n == 2 || k % 5 == 0;
+            uint32_t count = k == n ? L - data : record && data + part <= room ? part : w->mixed ? below(2) : 0;
+            e[0] = k == n ? 0x80 : record && data + part <= room ? 0x63 : 0x07;
+            if (e[0] == 0x63) data += count;
+            e[1] = (uint8_t)(count >> 16);
+            e[2] = (uint8_t)(count >> 8);
+            e[3] = (uint8_t)count;
+        }
+    }
+}
+
+static long read_once(const work *w, int who, long times)
+{
+    long t, bad = 0;
+    for (t = 0; t < times; t++) {
+        memcpy(state, reader_fresh, 16);
+        bad += reads[who](state, 16, images[t % IMAGES], L, 1, w->entries, rows, sizeof rows, answer, 24) != 0;
+    }
+    if (bad) wrong(w->name, "a group was refused");
+    return times;
+}
+
+/* ---- Writing, from fresh, in one group buffer, and putting each closed group nowhere */
+
+typedef struct { uint32_t to, from, length; } piece;
+static piece pieces[MOST_PIECES];
+static long piece_count;
+
+/* `log`: also note where each piece of data goes */
+static long write_once(const work *w, int who, long times, int log)
+{
+    long i;
+    record_call *record = records[who];
+    memcpy(state, writer_fresh, 32);
+    if (log) piece_count = 0;
+    for (i = 0; i < times; i++) {
+        uint32_t from = 0, left = w->length;
+        while (left) {
+            uint32_t at = number(state + DDS_STATE_DATA), taken;
+            if (record(state, 32, group, L, source + from, left, 0, answer, 24)) wrong(w->name, "a record was refused");
+            taken = number(answer + DDS_ANSWER_OUTCOME) ? number(answer + DDS_ANSWER_TAKEN) : left;
+            if (log && taken) {
+                piece p = { at, from, taken };
+                pieces[piece_count++] = p;
+            }
+            from += taken;
+            left -= taken;
+        }
+    }
+    return times;
+}
+
+static void copy_pieces(void)
+{
+    long i;
+    for (i = 0; i < piece_count; i++) {
+        memcpy(group + pieces[i].to, source + pieces[i].from, pieces[i].length);
+        __asm__ volatile("" : : "r"(group) : "memory");
+    }
+}
+
+/* ---- Measuring */
+
+static long repetitions(const work *w)
+{
+    if (w->length) return w->length >= BYTES ? 1 : BYTES / w->length;
+    return w->entries >= 30000 ? IMAGES : w->entries >= 100 ? 64 * IMAGES : 1024 * IMAGES;
+}
+
+/* each does the same before anything is measured */
+static void agree(const work *w)
+{
+    int who;
+    if (w->entries) make_images(w);
+    for (who = 0; who < WHO; who++) {
+        if (w->entries) {
+            memset(rows, 0xEE, sizeof rows);
+            read_once(w, who, IMAGES);
+            if (who == 0) memcpy(other_rows, rows, sizeof rows);
+            else if (memcmp(other_rows, rows, sizeof rows)) wrong(w->name, "rows differ");
+        } else {
+            memset(group, 0xEE, L);
+            write_once(w, who, repetitions(w), who == 0);
+            if (who == 0) memcpy(other_group, group, L);
+            else if (memcmp(other_group, group, L)) wrong(w->name, "groups differ");
+        }
+    }
+}
+
+static double best[WORKS][WHO + 1], counts[WORKS][WHO];
+
+static void measure(int i, int rounds)
+{
+    const work *w = &works[i];
+    long times = repetitions(w);
+    int who, r;
+    agree(w);
+    for (who = 0; who <= WHO; who++) best[i][who] = 1e30;
+    for (r = 0; r < rounds; r++)
+        for (who = 0; who <= WHO; who++) {
+            double begun, took;
+            if (who == WHO && w->entries) continue;
+            begun = now();
+            if (who == WHO) copy_pieces();
+            else if (w->entries) read_once(w, who, times);
+            else write_once(w, who, times, 0);
+            took = (now() - begun) / (double)times;
+            if (took < best[i][who]) best[i][who] = took;
+        }
+}
+
+static void load_counts(const char *path)
+{
+    FILE *f = fopen(path, "r");
+    char name[64], who[16];
+    double n;
+    int i, j;
+    if (!f) return;
+    while (fscanf(f, "%63s %15s %lf", name, who, &n) == 3)
+        for (i = 0; i < WORKS; i++)
+            for (j = 0; j < WHO; j++)
+                if (!strcmp(name, works[i].name) && !strcmp(who, who_name[j])) counts[i][j] = n;
+    fclose(f);
+}
+
+static void table(void)
+{
+    int i, who;
+    printf("%-19s %10s %10s %10s %10s | %6s %6s %6s %-9s | %10s %10s %10s\n", "a group or record", "dds ns", "-O2 ns", "-O3 ns",
+           "memcpy ns", "to -O2", "to -O3", "to cpy", "wanted", "dds instr", "-O2 instr", "-O3 instr");
+    for (i = 0; i < WORKS; i++) {
+        double *b = best[i], plain = b[1] < b[2] ? b[1] : b[2];
+        printf("%-19s %10.1f %10.1f %10.1f ", works[i].name, b[0], b[1], b[2]);
+        if (works[i].length) printf("%10.1f", b[3]); else printf("%10s", "-");
+        printf(" | %6.2f %6.2f ", b[0] / b[1], b[0] / b[2]);
+        if (works[i].length) printf("%6.2f", b[0] / b[3]); else printf("%6s", "-");
+        if (works[i].most == 0) printf(" %-9s |", "-");
+        else printf(" %4.2f %-4s |", works[i].most, b[0] <= works[i].most * plain ? "met" : "not");
+        for (who = 0; who < WHO; who++) if (counts[i][who] > 0) printf(" %10.0f", counts[i][who]); else printf(" %10s", "-");
+        printf("\n");
+    }
+}
+
+int main(int argc, char **argv)
+{
+    int i, who;
+    uint32_t k;
+    source = malloc(DDS_RECORD_MOST);
+    if (!source) return 2;
+    for (k = 0; k < DDS_RECORD_MOST; k++) source[k] = (uint8_t)(k * 7);
+    if (dds_reader_start(L, 1, reader_fresh, 16, answer, 24) || dds_writer_start(L, 1, writer_fresh, 32, answer, 24)) return 2;
+    if (argc == 2 && !strcmp(argv[1], "works")) {
+        for (i = 0; i < WORKS; i++) printf("%s %s\n", works[i].name, works[i].entries ? "read" : "record");
+        return 0;
+    }
+    if (argc == 4 && !strcmp(argv[1], "count")) {
+        for (i = 0; i < WORKS; i++)
+            for (who = 0; who < WHO; who++)
+                if (!strcmp(argv[2], works[i].name) && !strcmp(argv[3], who_name[who])) {
+                    if (works[i].entries) make_images(&works[i]);
+                    printf("%ld\n", works[i].entries ? read_once(&works[i], who, IMAGES) : write_once(&works[i], who, repetitions(&works[i]), 0));
+                    return 0;
+                }
+        return 2;
+    }
+    if (argc != 4 || strcmp(argv[1], "time")) { fprintf(stderr, "bench time COUNTS ROUNDS | bench count WORK WHO | bench works\n"); return 2; }
+    load_counts(argv[2]);
+    for (i = 0; i < WORKS; i++) measure(i, works[i].length > BYTES ? atoi(argv[3]) / 3 + 1 : atoi(argv[3]));
+    table();
+    free(source);
+    return 0;
+}

@@ -1,0 +1,302 @@
+/* Readings 13 to 21: one group read. Tables are given as flag and count in one word, entry 1 first; the rest of each
+   group is bytes EE, so that data, gap and the last 32 bytes are never what is expected. L = 64 unless it is said:
+   data may reach 32 - 4n. */
+
+#include "guard.h"
+
+/* one read at number 7, refused */
+#define REFUSED(name, phase, sum, refusal, place, ...) do { \
+        stage s_ = reader(64, 7, phase, sum); \
+        table(&s_, ENTRIES(__VA_ARGS__)); \
+        reads(&s_, 7, (uint32_t)(s_.rows.len / 12)); \
+        refused(&s_, name, refusal, place); \
+        leave(&s_); \
+    } while (0)
+
+/* one read at number 7, accepted; the phase and sum it leaves, and its rows */
+#define ACCEPTED(name, phase, sum, phase_left, sum_left, rows_text, ...) do { \
+        stage s_ = reader(64, 7, phase, sum); \
+        table(&s_, ENTRIES(__VA_ARGS__)); \
+        reads(&s_, 7, (uint32_t)(s_.rows.len / 12)); \
+        finished(&s_, name); \
+        STATE_IS(&s_, name, 64, 8, phase_left, sum_left); \
+        rows_are(&s_, name, rows_text); \
+        leave(&s_); \
+    } while (0)
+
+static void reading_13(void)
+{
+    static const uint32_t numbers[] = { 0, 1, 65535, 65536, 65537, 0xFFFFFFFF };
+    size_t i;
+    uint32_t phase;
+    stage s = reader(64, 65535, 0, 0);
+    table(&s, ENTRIES(0x80000040));
+    reads(&s, 65535, 1);
+    finished(&s, "reading 13: group 65,535 is accepted");
+    STATE_IS(&s, "reading 13: group 65,535 is accepted", 64, 65536, 0, 0);
+    for (i = 0; i < sizeof numbers / sizeof *numbers; i++) {
+        reads(&s, numbers[i], 1);
+        refused(&s, "reading 13: after it every number is 5", 5, 0);
+        reads(&s, numbers[i], 0);
+        refused(&s, "reading 13: before 6", 5, 0);
+    }
+    relend(&s.group, 65);
+    reads(&s, 65536, 1);
+    refused(&s, "reading 13: after 4", 4, 0);
+    leave(&s);
+    for (phase = 0; phase < 3; phase++) {
+        s = reader(64, 65536, phase, phase * 9);
+        table(&s, ENTRIES(0x80000040));
+        reads(&s, 65536, 1);
+        refused(&s, "reading 13: in each phase", 5, 0);
+        leave(&s);
+    }
+}
+
+static void reading_14(void)
+{
+    static const uint32_t others[] = { 0x01000009, 0x07000000, 0x40000001, 0x42000001, 0x60000001, 0x63000001 };
+    size_t i;
+    uint32_t phase;
+    ACCEPTED("reading 14: a lone skip while free", 0, 0, 0, 0, "00 00 00 07 00 00 00 00 00 00 00 40", 0x80000040);
+    ACCEPTED("reading 14: a lone skip with b4", 0, 0, 0, 0, "00 00 00 07 00 00 00 00 00 00 00 40", 0x88000040);
+    REFUSED("reading 14: a lone skip inside", 1, 9, 10, 1, 0x80000040);
+    REFUSED("reading 14: a lone skip owed", 2, 9, 10, 1, 0x80000040);
+    for (phase = 0; phase < 3; phase++)
+        for (i = 0; i < sizeof others / sizeof *others; i++)
+            REFUSED("reading 14: another kind at n = 1", phase, phase * 9, 10, 1, others[i]);
+    REFUSED("reading 14: a start at entry n", 0, 0, 10, 2, 0x07000000, 0x42000001);
+    REFUSED("reading 14: an entire record at entry n", 0, 0, 10, 2, 0x63000001, 0x63000001);
+    REFUSED("reading 14: a last at entry n", 1, 9, 10, 1, 0x60000001);
+    REFUSED("reading 14: a total at entry n", 1, 9, 10, 2, 0x60000001, 0x0100000A);
+}
+
+static void reading_15(void)
+{
+    REFUSED("reading 15: 8 whatever else", 1, 9, 8, 2, 0x68000001, 0x43FFFFFF, 0x88000040);
+    REFUSED("reading 15: 8 at n, not 10", 0, 0, 8, 1, 0x43000000);
+    REFUSED("reading 15: 9 on a misplaced kind, not 10", 0, 0, 9, 2, 0x0F000000, 0x60000000, 0x88000040);
+    REFUSED("reading 15: 9 on a misplaced skip, not 10", 0, 0, 9, 2, 0x0F000000, 0x80000000, 0x88000040);
+    REFUSED("reading 15: 9 on a wrong count, not 11", 0, 0, 9, 2, 0x0F000000, 0x07000002, 0x88000040);
+    REFUSED("reading 15: 9 on a wrong skip, not 13", 0, 0, 9, 2, 0x0F000000, 0x80000000);
+    REFUSED("reading 15: a zero last while free is 10", 0, 0, 10, 1, 0x60000000, 0x80000040);
+    REFUSED("reading 15: a wrong skip before n is 10", 0, 0, 10, 1, 0x80000001, 0x80000040);
+    REFUSED("reading 15: a right skip before n is 10", 0, 0, 10, 2, 0x07000000, 0x80000040, 0x80000040);
+    REFUSED("reading 15: a wrong skip inside is 10", 1, 9, 10, 1, 0x80000001);
+    REFUSED("reading 15: a start of 16,777,215 is 11", 0, 0, 11, 1, 0x42FFFFFF, 0x80000040);
+    REFUSED("reading 15: a start of 16,777,214 is 12", 0, 0, 12, 1, 0x42FFFFFE, 0x80000040);
+    REFUSED("reading 15: an over-long middle is 11, not 12", 1, 9, 11, 1, 0x40FFFFFF, 0x80000040);
+    REFUSED("reading 15: an over-long last is 11, not 12", 1, 9, 11, 1, 0x60FFFFF7, 0x80000040);
+    REFUSED("reading 15: a last just not over-long is 12", 1, 9, 12, 1, 0x60FFFFF6, 0x80000040);
+    REFUSED("reading 15: a total that differs is 11", 2, 9, 11, 1, 0x0100000A, 0x80000040);
+    REFUSED("reading 15: a total that differs is 11", 2, 9, 11, 1, 0x01000008, 0x80000040);
+    REFUSED("reading 15: a total of 0 is 11", 2, 9, 11, 1, 0x01000000, 0x80000040);
+    REFUSED("reading 15: a total after last", 1, 9, 11, 2, 0x60000005, 0x0100000D, 0x8000003B);
+    REFUSED("reading 15: a total of its last part only", 1, 9, 11, 2, 0x60000005, 0x01000005, 0x8000003B);
+}
+
+static void reading_16(void)
+{
+    REFUSED("reading 16: a start of 0", 0, 0, 11, 1, 0x42000000, 0x80000040);
+    REFUSED("reading 16: a middle of 0", 1, 9, 11, 1, 0x40000000, 0x80000040);
+    REFUSED("reading 16: a last of 0", 1, 9, 11, 1, 0x60000000, 0x80000040);
+    REFUSED("reading 16: an entire record of 0", 0, 0, 11, 1, 0x63000000, 0x80000040);
+    REFUSED("reading 16: an entire record of 16,777,215 is 12", 0, 0, 12, 1, 0x63FFFFFF, 0x80000040);
+    REFUSED("reading 16: a separator of 2", 0, 0, 11, 1, 0x07000002, 0x80000040);
+    REFUSED("reading 16: a separator of 16,777,215", 0, 0, 11, 1, 0x07FFFFFF, 0x80000040);
+    REFUSED("reading 16: a separator of 256", 0, 0, 11, 1, 0x07000100, 0x80000040);
+    REFUSED("reading 16: a separator of 65,536", 0, 0, 11, 1, 0x07010000, 0x80000040);
+    REFUSED("reading 16: a middle to 16,777,215", 1, 16777214, 11, 1, 0x40000001, 0x8000003F);
+    ACCEPTED("reading 16: a middle to 16,777,214", 1, 16777213, 1, 16777214,
+             "00 00 00 03 00 00 00 00 00 00 00 01 00 00 00 07 00 00 00 01 00 00 00 3F", 0x40000001, 0x8000003F);
+    REFUSED("reading 16: a last to 16,777,216", 1, 16777214, 11, 1, 0x60000002, 0x8000003E);
+    ACCEPTED("reading 16: a last to 16,777,215", 1, 16777214, 2, 16777215,
+             "00 00 00 05 00 00 00 00 00 00 00 01 00 00 00 07 00 00 00 01 00 00 00 3F", 0x60000001, 0x8000003F);
+    ACCEPTED("reading 16: a total of 16,777,215", 2, 16777215, 0, 0,
+             "00 00 00 01 00 00 00 00 00 FF FF FF 00 00 00 07 00 00 00 00 00 00 00 40", 0x01FFFFFF, 0x80000040);
+    REFUSED("reading 16: a skip of 0 is 13", 0, 0, 13, 1, 0x80000000);
+    REFUSED("reading 16: a skip of 16,777,215 is 13", 0, 0, 13, 1, 0x80FFFFFF);
+    REFUSED("reading 16: a skip of L - 32", 0, 0, 13, 2, 0x63000004, 0x8000001C);
+    REFUSED("reading 16: a skip that counts a total", 1, 9, 13, 3, 0x60000005, 0x0100000E, 0x8000002D);
+    REFUSED("reading 16: a skip that counts a separator", 0, 0, 13, 2, 0x07000001, 0x8000003F);
+}
+
+static void reading_17(void)
+{
+    ACCEPTED("reading 17: data up to 32 - 4n", 0, 0, 0, 0,
+             "00 00 00 06 00 00 00 00 00 00 00 18 00 00 00 07 00 00 00 18 00 00 00 28", 0x63000018, 0x80000028);
+    REFUSED("reading 17: one more", 0, 0, 12, 1, 0x63000019, 0x80000027);
+    REFUSED("reading 17: at entry 1 against n = 3", 0, 0, 12, 1, 0x63000015, 0x07000000, 0x8000002B);
+    REFUSED("reading 17: a start at entry 1", 0, 0, 12, 1, 0x42000019, 0x80000027);
+    REFUSED("reading 17: a middle", 1, 9, 12, 1, 0x40000019, 0x80000027);
+    REFUSED("reading 17: a last before its total", 1, 9, 12, 1, 0x60000015, 0x0100001E, 0x8000002B);
+    REFUSED("reading 17: a last before a skip", 1, 9, 12, 1, 0x60000019, 0x80000027);
+    REFUSED("reading 17: at the second record", 0, 0, 12, 2, 0x6300000A, 0x6300000B, 0x8000002B);
+    REFUSED("reading 17: at a start after a separator", 0, 0, 12, 3, 0x6300000A, 0x07000000, 0x42000007, 0x8000002F);
+    ACCEPTED("reading 17: a total above all data is no data", 2, 16777215, 0, 0,
+             "00 00 00 01 00 00 00 00 00 FF FF FF 00 00 00 06 00 00 00 00 00 00 00 14 00 00 00 07 00 00 00 14 00 00 00 2C",
+             0x01FFFFFF, 0x63000014, 0x8000002C);
+}
+
+static void reading_18(void)
+{
+    static const uint8_t fills[] = { 0x00, 0xFF, 0x80, 0x43, 0x07 };
+    size_t i;
+    for (i = 0; i < sizeof fills; i++) {
+        stage s = reader(64, 7, 0, 0);
+        memset(s.group.at, fills[i], 64);
+        put(s.group.at + 28, 0x63000003);
+        put(s.group.at + 24, 0x8000003D);
+        relend(&s.rows, 40);
+        reads(&s, 7, 2);
+        finished(&s, "reading 18: other bytes are never looked at");
+        rows_are(&s, "reading 18: other bytes are never looked at",
+                 "00 00 00 06 00 00 00 00 00 00 00 03 00 00 00 07 00 00 00 03 00 00 00 3D EE*16");
+        leave(&s);
+    }
+}
+
+static void reading_19(void)
+{
+    REFUSED("reading 19: no row before the last entry has passed", 0, 0, 13, 3, 0x63000001, 0x07000000, 0x80000040);
+    ACCEPTED("reading 19: offsets and counts", 1, 5, 0, 0,
+             "00 00 00 05 00 00 00 00 00 00 00 03 00 00 00 01 00 00 00 03 00 00 00 08 00 00 00 02 00 00 00 03 00 00 00 01 "
+             "00 00 00 06 00 00 00 03 00 00 00 04 00 00 00 07 00 00 00 07 00 00 00 39",
+             0x60000003, 0x01000008, 0x07000001, 0x63000004, 0x80000039);
+}
+
+static void reading_20(void)
+{
+    ACCEPTED("reading 20: a start after a total", 1, 5, 1, 4,
+             "00 00 00 05 00 00 00 00 00 00 00 03 00 00 00 01 00 00 00 03 00 00 00 08 00 00 00 04 00 00 00 03 00 00 00 04 "
+             "00 00 00 07 00 00 00 07 00 00 00 39", 0x60000003, 0x01000008, 0x42000004, 0x80000039);
+    ACCEPTED("reading 20: a start after an owed total", 2, 500, 1, 20,
+             "00 00 00 01 00 00 00 00 00 00 01 F4 00 00 00 04 00 00 00 00 00 00 00 14 00 00 00 07 00 00 00 14 00 00 00 2C",
+             0x010001F4, 0x42000014, 0x8000002C);
+    ACCEPTED("reading 20: a skip after a total", 1, 5, 0, 0,
+             "00 00 00 05 00 00 00 00 00 00 00 03 00 00 00 01 00 00 00 03 00 00 00 08 00 00 00 07 00 00 00 03 00 00 00 3D",
+             0x60000003, 0x01000008, 0x8000003D);
+    ACCEPTED("reading 20: a skip after a last", 1, 5, 2, 8,
+             "00 00 00 05 00 00 00 00 00 00 00 03 00 00 00 07 00 00 00 03 00 00 00 3D", 0x60000003, 0x8000003D);
+    ACCEPTED("reading 20: a middle", 1, 5, 1, 8,
+             "00 00 00 03 00 00 00 00 00 00 00 03 00 00 00 07 00 00 00 03 00 00 00 3D", 0x40000003, 0x8000003D);
+    REFUSED("reading 20: a second total", 2, 9, 10, 2, 0x01000009, 0x01000009, 0x80000040);
+    REFUSED("reading 20: a total of 0 after an entire record", 0, 0, 10, 2, 0x63000001, 0x01000000, 0x8000003F);
+}
+
+static void reading_21(void)
+{
+    stage s = reader(64, 7, 0, 0);
+    table(&s, ENTRIES(0x0F000000, 0x4A000003, 0x8800003D));
+    reads(&s, 7, 3);
+    finished(&s, "reading 21: b4 set at once");
+    table(&s, ENTRIES(0x40000002, 0x8000003E));
+    reads(&s, 8, 2);
+    finished(&s, "reading 21: b4 begins anew inside a record");
+    table(&s, ENTRIES(0x60000002, 0x01000007, 0x0F000000, 0x8800003E));
+    reads(&s, 9, 4);
+    finished(&s, "reading 21: b4 begins at any entry");
+    STATE_IS(&s, "reading 21", 64, 10, 0, 0);
+    table(&s, ENTRIES(0x07000000, 0x88000040));
+    reads(&s, 10, 2);
+    finished(&s, "reading 21: b4 begins at the skip");
+    leave(&s);
+    REFUSED("b4 dropped at 2", 0, 0, 9, 2, 0x6B000001, 0x63000001, 0x8800003E);
+    REFUSED("b4 dropped at the skip", 0, 0, 9, 3, 0x63000001, 0x6B000001, 0x8000003E);
+    REFUSED("b4 dropped at a total", 1, 9, 9, 2, 0x68000001, 0x0100000A, 0x8800003F);
+}
+
+/* all 256 flags, at entry 2, with b4 clear and set before them */
+static void flags(void)
+{
+    static const uint8_t valid[14] = { 0x01, 0x07, 0x40, 0x42, 0x60, 0x63, 0x80, 0x09, 0x0F, 0x48, 0x4A, 0x68, 0x6B, 0x88 };
+    uint32_t flag, i, b4, kind;
+    for (flag = 0; flag < 256; flag++)
+        for (b4 = 0; b4 < 2; b4++) {
+            uint32_t wanted = 8;
+            for (i = 0; i < 14; i++) if (valid[i] == flag) wanted = b4 && i < 7 ? 9 : 0;
+            kind = (flag & 0xF7) == 0x07 ? 2 : (flag & 0xF7) == 0x42 ? 4 : (flag & 0xF7) == 0x63 ? 6 : 0;
+            if (wanted == 0 && kind == 0) wanted = 10;
+            if (wanted) REFUSED("every flag", 0, 0, wanted, 2, b4 ? 0x0F000000 : 0x07000000, flag << 24 | 1, 0x88000040);
+            else {
+                stage s = reader(64, 7, 0, 0);
+                table(&s, ENTRIES(b4 ? 0x0F000000 : 0x07000000, flag << 24 | 1, kind == 2 ? 0x88000040 : 0x8800003F));
+                reads(&s, 7, 3);
+                finished(&s, "every flag");
+                check(get(s.rows.at + 12) == kind, "every flag", "kind");
+                leave(&s);
+            }
+        }
+}
+
+/* which kind may follow: for each place the kinds 1 to 7 that may stand there, as document 01 lists them */
+static void follow(void)
+{
+    static const uint32_t one[8] = { 0, 0x0100000A, 0x07000001, 0x40000001, 0x42000001, 0x60000001, 0x63000001, 0x80000000 };
+    static const struct { const char *name, *allowed; uint32_t phase, before; } places[] = {
+        { "free", "2467", 0, 0 }, { "inside", "35", 1, 0 }, { "owed", "1", 2, 0 }, { "after total", "2467", 2, 0x0100000A },
+        { "after separator", "2467", 0, 0x07000000 }, { "after entire", "2467", 0, 0x63000001 }, { "after start", "7", 0, 0x42000001 },
+        { "after middle", "7", 1, 0x40000001 }, { "after last", "17", 1, 0x60000001 },
+    };
+    size_t i;
+    uint32_t kind;
+    for (i = 0; i < sizeof places / sizeof *places; i++)
+        for (kind = 1; kind <= 7; kind++) {
+            uint32_t k = places[i].before ? 2 : 1, sum = places[i].phase == 1 ? 9 : places[i].phase == 2 ? 10 : 0, data;
+            int allowed = strchr(places[i].allowed, '0' + (int)kind) != 0;
+            stage s = reader(64, 7, places[i].phase, sum);
+            data = places[i].before && places[i].before != 0x07000000 && places[i].before != 0x0100000A ? 1 : 0;
+            table(&s, 4, (uint32_t[4]){ places[i].before, 0, 0, 0 });
+            put(s.group.at + 32 - 4 * k, one[kind] + (kind == 7 ? 64 - data : 0));
+            /* a skip stands last; any other kind is followed by what breaks rule 8 at the next place */
+            reads(&s, 7, kind == 7 ? k : k + 1);
+            if (allowed && kind == 7) finished(&s, places[i].name);
+            else if (allowed) refused(&s, places[i].name, 8, k + 1);
+            else refused(&s, places[i].name, 10, k);
+            leave(&s);
+        }
+}
+
+/* the standard's size: as many entries as there can be, 31,650, and one more */
+static void largest_table(void)
+{
+    uint32_t k;
+    stage s = reader(126632, 7, 0, 0);
+    for (k = 1; k < 31650; k++) put(s.group.at + 126600 - 4 * k, 0x07000000 + k % 2);
+    put(s.group.at, 0x8001EEA8);
+    relend(&s.rows, 379800);
+    reads(&s, 7, 31651);
+    refused(&s, "31,651 entries", 6, 0);
+    put(s.group.at, 0x8001EEA7);
+    reads(&s, 7, 31650);
+    refused(&s, "31,650 entries, the last one wrong", 13, 31650);
+    put(s.group.at, 0x8001EEA8);
+    relend(&s.rows, 379799);
+    reads(&s, 7, 31650);
+    refused(&s, "31,650 entries, a row byte short", 7, 0);
+    relend(&s.rows, 379800);
+    reads(&s, 7, 31650);
+    finished(&s, "31,650 entries");
+    STATE_IS(&s, "31,650 entries", 126632, 8, 0, 0);
+    for (k = 1; k < 31650; k++)
+        check(get(s.rows.at + 12 * k - 12) == 2 && get(s.rows.at + 12 * k - 8) == 0 && get(s.rows.at + 12 * k - 4) == k % 2, "31,650 entries", "row");
+    check(get(s.rows.at + 379788) == 7 && get(s.rows.at + 379792) == 0 && get(s.rows.at + 379796) == 126632, "31,650 entries", "skip");
+    leave(&s);
+}
+
+int main(void)
+{
+    reading_13();
+    reading_14();
+    reading_15();
+    reading_16();
+    reading_17();
+    reading_18();
+    reading_19();
+    reading_20();
+    reading_21();
+    flags();
+    follow();
+    largest_table();
+    return finish("reading");
+}
