@@ -1,14 +1,22 @@
-# `make` proves every crate, builds what there is into target/ and shows the main job; `make test` is the gate.
-.PHONY: all test clean
+# `make` proves every crate, builds the library, its header and the lister into target/, and shows the main job; `make test`
+# is the gate; `make bench` puts the library beside plain C.
+.PHONY: all library test bench clean
+archive = target/staticlib/libdds.a
 
-all:
-	rt check
+all: library
 	@echo
-	@echo "The lister reads case A of the bench table:"
-	@tests/lister/show target/bin/lister crates/lister/stdin
+	examples/run $(archive)
+
+library:
+	rt check
+	rt staticlib dds
+	cp include/dds.h target/dds.h
 
 test:
 	tests/gate
+
+bench: library
+	bench/run $(archive)
 
 clean:
 	rm -rf target
