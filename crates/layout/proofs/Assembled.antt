@@ -4,7 +4,6 @@ use Prim.Native.Nat.{ℕ}
 use mathlib.Core.List.{List, [], _∷_, _++_, map, append-assoc, append-nil}
 use mathlib.Core.Bool.{Bool, true, false}
 use mathlib.Core.Path.{_≡_, refl, ap, _∙_}
-use lib.ListN.{length}
 use Rattle.layout.specs.Items.{Item, Laid, Tail, Piece, Token, items, soFar, tokens, tailTokens, middles, lateBy, grouped, joined, wholeOf}
 use Rattle.layout.specs.Items.Item.{recordItem, separatorItem}
 use Rattle.layout.specs.Items.Laid.{laidEntire, laidSpanned, laidSeparator, endedEarly}
@@ -50,15 +49,24 @@ unfolding piecesIn lateBy
 in-late true ts = refl
 in-late false ts = refl
 
+-- A spanned record's bytes, whatever its total says.
+items-spanned : (p : List ℕ) (ps : List (List ℕ)) (q : List ℕ) (l : Bool) (n : ℕ) (ts : List Token) →
+    itemsAfter p (piecesIn (middles ps (piece (aLast q) ∷ lateBy l (piece (aTotal n) ∷ ts)))) ≡ recordItem (wholeOf p ps q) ∷ itemsAfter [] (piecesIn ts)
+unfolding itemsAfter piecesIn wholeOf
+items-spanned p ps q l n ts = rw (items-middles p ps (piece (aLast q) ∷ lateBy l (piece (aTotal n) ∷ ts)), in-late)
+
+begun-spanned : (p : List ℕ) (ps : List (List ℕ)) (q : List ℕ) (l : Bool) (n : ℕ) (ts : List Token) →
+    begunAfter p (piecesIn (middles ps (piece (aLast q) ∷ lateBy l (piece (aTotal n) ∷ ts)))) ≡ begunAfter [] (piecesIn ts)
+unfolding begunAfter piecesIn
+begun-spanned p ps q l n ts = rw (begun-middles p ps (piece (aLast q) ∷ lateBy l (piece (aTotal n) ∷ ts)), in-late)
+
 pub items-of-tokens : (ls : List Laid) (t : Tail) → itemsAfter [] (piecesIn (tokens ls t)) ≡ items ls
 unfolding itemsAfter piecesIn tokens items tailTokens wholeOf
 items-of-tokens [] noneOpen = refl
 items-of-tokens [] (brokenInside p ps) = items-middles p ps []
 items-of-tokens [] (brokenOwed p ps q) = items-middles p ps (piece (aLast q) ∷ groupEnd ∷ [])
 items-of-tokens (laidEntire r ∷ ls) t = ap {B = List Item} (λ i. recordItem r ∷ i) (items-of-tokens ls t)
-items-of-tokens (laidSpanned p ps q l ∷ ls) t =
-    rw (items-middles p ps (piece (aLast q) ∷ lateBy l (piece (aTotal (length (wholeOf p ps q))) ∷ tokens ls t)), in-late)
-    (ap {B = List Item} (λ i. recordItem (wholeOf p ps q) ∷ i) (items-of-tokens ls t))
+items-of-tokens (laidSpanned p ps q l ∷ ls) t = items-spanned p ps q l _ (tokens ls t) ∙ ap {B = List Item} (λ i. recordItem (wholeOf p ps q) ∷ i) (items-of-tokens ls t)
 items-of-tokens (laidSeparator v ∷ ls) t = ap {B = List Item} (λ i. separatorItem v ∷ i) (items-of-tokens ls t)
 items-of-tokens (endedEarly ∷ ls) t = items-of-tokens ls t
 
@@ -68,7 +76,6 @@ begun-of-tokens [] noneOpen = refl
 begun-of-tokens [] (brokenInside p ps) = begun-middles p ps []
 begun-of-tokens [] (brokenOwed p ps q) = begun-middles p ps (piece (aLast q) ∷ groupEnd ∷ [])
 begun-of-tokens (laidEntire r ∷ ls) t = begun-of-tokens ls t
-begun-of-tokens (laidSpanned p ps q l ∷ ls) t =
-    rw (begun-middles p ps (piece (aLast q) ∷ lateBy l (piece (aTotal (length (wholeOf p ps q))) ∷ tokens ls t)), in-late) (begun-of-tokens ls t)
+begun-of-tokens (laidSpanned p ps q l ∷ ls) t = begun-spanned p ps q l _ (tokens ls t) ∙ begun-of-tokens ls t
 begun-of-tokens (laidSeparator v ∷ ls) t = begun-of-tokens ls t
 begun-of-tokens (endedEarly ∷ ls) t = begun-of-tokens ls t
