@@ -2,7 +2,7 @@
 -- Assumes nothing.
 use Prim.Native.Nat.{ℕ, _+_, _≤_}
 use native.Mathlib.Omega.{arith}
-use mathlib.Core.List.{List, [], _∷_, _++_, map, append-assoc, append-nil}
+use mathlib.Core.List.{List, [], _∷_, _++_, map, append-assoc, append-nil, map-append}
 use mathlib.Core.Bool.{Bool, true, false, _||_}
 use mathlib.Core.Path.{_≡_, refl, ap}
 use lib.ListN.{length}
@@ -41,14 +41,14 @@ walk-end stop f = leap f stop
 walk-end (step g w) f = step g (walk-end w f)
 walk-end (leap h w) f = leap h (walk-end w f)
 
-pub map-snoc : (ps : List Piece) (p : Piece) → map piece (ps ++ (p ∷ [])) ≡ map piece ps ++ (piece p ∷ [])
-map-snoc [] p = refl
-map-snoc (q ∷ ps) p = ap {B = List Token} (λ r. piece q ∷ r) (map-snoc ps p)
+pub grouped-append : (gs hs : List (List Piece)) → grouped (gs ++ hs) ≡ grouped gs ++ grouped hs
+unfolding grouped
+grouped-append [] hs = refl
+grouped-append (g ∷ gs) hs = rw (grouped-append gs hs, append-assoc (map piece g) (groupEnd ∷ grouped gs) (grouped hs))
 
 grouped-snoc : (gs : List (List Piece)) (ps : List Piece) → grouped (gs ++ (ps ∷ [])) ≡ grouped gs ++ map piece ps ++ (groupEnd ∷ [])
 unfolding grouped
-grouped-snoc [] ps = refl
-grouped-snoc (g ∷ gs) ps = rw (grouped-snoc gs ps, append-assoc (map piece g) (groupEnd ∷ grouped gs) (map piece ps), append-assoc (map piece g) (groupEnd ∷ (grouped gs ++ map piece ps)) (groupEnd ∷ []))
+grouped-snoc gs ps = rw (grouped-append gs (ps ∷ []), append-assoc (grouped gs) (map piece ps) (groupEnd ∷ []))
 
 flat-snoc : (gs : List (List Piece)) (ps : List Piece) → flat (gs ++ (ps ∷ [])) ≡ flat gs ++ ps
 unfolding flat
@@ -124,7 +124,7 @@ module _ {first sum : ℕ} {at : Stand} {w : Desk} {run : List Image} {finished 
   -- One piece more of the open group.
   module _ (p : Piece) (h : Held first at sum w run finished begun) (f : Fits at sum p) where
     told : Walk (standAfter at (kindOf p)) (sumAfter (kindOf p) sum (countOf p)) Free 0 (grouped (h .groups) ++ map piece (h .pieces ++ (p ∷ [])))
-    told = rw (map-snoc (h .pieces) p, ← append-assoc (grouped (h .groups)) (map piece (h .pieces)) (piece p ∷ [])) (walk-piece p (h .walks) f)
+    told = rw (map-append piece (h .pieces) (p ∷ []), ← append-assoc (grouped (h .groups)) (map piece (h .pieces)) (piece p ∷ [])) (walk-piece p (h .walks) f)
 
     told-items : itemsAfter [] (flat (h .groups) ++ (h .pieces ++ (p ∷ []))) ≡ finished ++ itemsAfter begun (p ∷ [])
     told-items = rw (← append-assoc (flat (h .groups)) (h .pieces) (p ∷ []), items-append [] (flat (h .groups) ++ h .pieces) (p ∷ []), h .finishes, h .breaks)
