@@ -24,7 +24,6 @@ use Rattle.reader.specs.Rules.{mayFollow, entryFault}
 use Rattle.reader.specs.Scan.{scan, rowsFrom}
 use Rattle.reader.specs.Answer.{fresh, readerStartCall, readRefusal, readCall, groupScan, groupRows}
 use Rattle.layout.specs.Items.{Laid, Tail, Piece, Each, SoundLaid, SoundTail, items, soFar, tokens, tailTokens, middles, lateBy, grouped, joined, wholeOf}
-use Rattle.layout.specs.Items.Item.{recordItem}
 use Rattle.layout.specs.Items.Each.{each-none, each-more}
 use Rattle.layout.specs.Items.Laid.{laidEntire, laidSpanned, laidSeparator, endedEarly}
 use Rattle.layout.specs.Items.Tail.{noneOpen, brokenInside, brokenOwed}
@@ -131,7 +130,7 @@ shown {laid} {tail} {rows} groups sound soundTail groupsOf images accepts i b =
       begun-read = b;
     }
 
--- The same for groups of 64 bytes made here.
+-- The same of groups made here.
 made : {laid : List Laid} {tail : Tail} {rows : List (List ℕ)} {final : Reader} (groups : List (ℕ × List Piece)) → Each (SoundLaid 64) laid → SoundTail 64 tail →
     tokens laid tail ≡ grouped (piecesOfEach groups) → fitting 1 groups ≡ true → Accepts (fresh 64 1) (runOf 1 groups) rows final →
     itemsRead (runOf 1 groups) rows ≡ items laid → begunRead (runOf 1 groups) rows ≡ soFar tail → Shown laid tail (runOf 1 groups) final
@@ -187,7 +186,7 @@ pub entire-shown : Shown mixed-laid noneOpen (runOf 1 ((9, mixed) ∷ [])) (at 2
 unfolding opens groupOf runOf
 entire-shown = mixed-shown 9 (accepts-more {t = at 2 phase.Free 0} old refl accepts-none) refl refl
 
--- b4 beginning at each entry of a group, the skip with them.
+-- b4 beginning at each entry of a group in turn, the last time at its skip.
 pub b4-shown : Each (λ (plain : ℕ). Shown mixed-laid noneOpen (runOf 1 ((plain, mixed) ∷ [])) (at 2 phase.Free 0)) (0 ∷ 1 ∷ 2 ∷ 3 ∷ [])
 unfolding opens groupOf runOf
 b4-shown =
@@ -259,38 +258,25 @@ owed-shown =
     (accepts-more {t = at 2 phase.Inside 1} old refl (accepts-more {t = at 3 phase.Owed 2} old refl accepts-none))
     refl refl
 
--- "only the number tells equal middles apart": two middles of one length. Their groups exchanged and numbered anew are another
--- record's lawful layout, and accepted; with the numbers that they bore they are refused with 5.
-abbrev pub equalMiddles : List ℕ → List ℕ → List (ℕ × List Piece)
-equalMiddles p q = (9, aStart (1 ∷ []) ∷ []) ∷ (9, aMiddle p ∷ []) ∷ (9, aMiddle q ∷ []) ∷ (9, aLast (4 ∷ []) ∷ aTotal 6 ∷ []) ∷ []
+-- "only the number tells equal middles apart": a record with two middles of one length, whatever their bytes. So where x y and
+-- z w change places and their groups are numbered anew, the run is accepted as another record ..
+abbrev pub equalMiddles : ℕ → ℕ → ℕ → ℕ → List (ℕ × List Piece)
+equalMiddles x y z w = (9, aStart (1 ∷ []) ∷ []) ∷ (9, aMiddle (x ∷ y ∷ []) ∷ []) ∷ (9, aMiddle (z ∷ w ∷ []) ∷ []) ∷ (9, aLast (4 ∷ []) ∷ aTotal 6 ∷ []) ∷ []
 
-middles-shown : {rows : List (List ℕ)} (x y z w : ℕ) → Accepts (fresh 64 1) (runOf 1 (equalMiddles (x ∷ y ∷ []) (z ∷ w ∷ []))) rows (at 5 phase.Free 0) →
-    itemsRead (runOf 1 (equalMiddles (x ∷ y ∷ []) (z ∷ w ∷ []))) rows ≡ recordItem (1 ∷ x ∷ y ∷ z ∷ w ∷ 4 ∷ []) ∷ [] →
-    begunRead (runOf 1 (equalMiddles (x ∷ y ∷ []) (z ∷ w ∷ []))) rows ≡ [] →
-    Shown (laidSpanned (1 ∷ []) ((x ∷ y ∷ []) ∷ (z ∷ w ∷ []) ∷ []) (4 ∷ []) false ∷ endedEarly ∷ []) noneOpen (runOf 1 (equalMiddles (x ∷ y ∷ []) (z ∷ w ∷ []))) (at 5 phase.Free 0)
-unfolding opens fitting
-middles-shown x y z w a i b =
-    made (equalMiddles (x ∷ y ∷ []) (z ∷ w ∷ []))
+pub middles-shown : (x y z w : ℕ) → Shown (laidSpanned (1 ∷ []) ((x ∷ y ∷ []) ∷ (z ∷ w ∷ []) ∷ []) (4 ∷ []) false ∷ endedEarly ∷ []) noneOpen (runOf 1 (equalMiddles x y z w)) (at 5 phase.Free 0)
+unfolding opens groupOf runOf fitting
+middles-shown x y z w =
+    made (equalMiddles x y z w)
     (each-more (sound-spanned (lit≤ tt) (each-more (lit≤ tt) (each-more (lit≤ tt) each-none)) (lit≤ tt) (lit≤ tt) tt) (each-more sound-early each-none)) sound-none
-    refl refl a i b
-
-pub in-order-shown : Shown (laidSpanned (1 ∷ []) ((2 ∷ 2 ∷ []) ∷ (3 ∷ 3 ∷ []) ∷ []) (4 ∷ []) false ∷ endedEarly ∷ []) noneOpen (runOf 1 (equalMiddles (2 ∷ 2 ∷ []) (3 ∷ 3 ∷ []))) (at 5 phase.Free 0)
-unfolding opens groupOf runOf
-in-order-shown =
-    middles-shown 2 2 3 3
-    (accepts-more {t = at 2 phase.Inside 1} old refl (accepts-more {t = at 3 phase.Inside 3} old refl (accepts-more {t = at 4 phase.Inside 5} old refl (accepts-more {t = at 5 phase.Free 0} old refl accepts-none))))
+    refl refl
+    (accepts-more {t = at 2 phase.Inside 1} old refl (accepts-more {t = at 3 phase.Inside 3} old refl
+    (accepts-more {t = at 4 phase.Inside 5} old refl (accepts-more {t = at 5 phase.Free 0} old refl accepts-none))))
     refl refl
 
-pub other-order-shown : Shown (laidSpanned (1 ∷ []) ((3 ∷ 3 ∷ []) ∷ (2 ∷ 2 ∷ []) ∷ []) (4 ∷ []) false ∷ endedEarly ∷ []) noneOpen (runOf 1 (equalMiddles (3 ∷ 3 ∷ []) (2 ∷ 2 ∷ []))) (at 5 phase.Free 0)
-unfolding opens groupOf runOf
-other-order-shown =
-    middles-shown 3 3 2 2
-    (accepts-more {t = at 2 phase.Inside 1} old refl (accepts-more {t = at 3 phase.Inside 3} old refl (accepts-more {t = at 4 phase.Inside 5} old refl (accepts-more {t = at 5 phase.Free 0} old refl accepts-none))))
-    refl refl
-
-pub exchanged-shown : OutOfOrder (fresh 64 1) (groupOf 1 9 (aStart (1 ∷ []) ∷ []) ∷ []) (groupOf 3 9 (aMiddle (3 ∷ 3 ∷ []) ∷ []))
-    (groupOf 2 9 (aMiddle (2 ∷ 2 ∷ []) ∷ []) ∷ groupOf 4 9 (aLast (4 ∷ []) ∷ aTotal 6 ∷ []) ∷ [])
+-- .. and with the numbers that they bore it is refused with 5, although its total matches.
+pub exchanged-shown : (x y z w : ℕ) → OutOfOrder (fresh 64 1) (groupOf 1 9 (aStart (1 ∷ []) ∷ []) ∷ []) (groupOf 3 9 (aMiddle (z ∷ w ∷ []) ∷ []))
+    (groupOf 2 9 (aMiddle (x ∷ y ∷ []) ∷ []) ∷ groupOf 4 9 (aLast (4 ∷ []) ∷ aTotal 6 ∷ []) ∷ [])
 unfolding runOf
-exchanged-shown =
+exchanged-shown x y z w =
     exchanged 64 1 (fresh 64 1) starts (groupOf 1 9 (aStart (1 ∷ []) ∷ []) ∷ []) [] (groupOf 4 9 (aLast (4 ∷ []) ∷ aTotal 6 ∷ []) ∷ [])
-    (groupOf 2 9 (aMiddle (2 ∷ 2 ∷ []) ∷ [])) (groupOf 3 9 (aMiddle (3 ∷ 3 ∷ []) ∷ [])) (in-order-shown .rows) (at 5 phase.Free 0) (in-order-shown .accepts)
+    (groupOf 2 9 (aMiddle (x ∷ y ∷ []) ∷ [])) (groupOf 3 9 (aMiddle (z ∷ w ∷ []) ∷ [])) (middles-shown x y z w .rows) (at 5 phase.Free 0) (middles-shown x y z w .accepts)
