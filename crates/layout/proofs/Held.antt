@@ -2,7 +2,7 @@
 -- Assumes nothing.
 use Prim.Native.Nat.{ℕ, _+_, _≤_}
 use native.Mathlib.Omega.{arith}
-use mathlib.Core.List.{List, [], _∷_, _++_, map, append-assoc, append-nil}
+use mathlib.Core.List.{List, [], _∷_, _++_, map, append-assoc, append-nil, map-append}
 use mathlib.Core.Bool.{Bool, true, false, _||_}
 use mathlib.Core.Path.{_≡_, refl, ap}
 use lib.ListN.{length}
@@ -41,14 +41,14 @@ walk-end stop f = leap f stop
 walk-end (step g w) f = step g (walk-end w f)
 walk-end (leap h w) f = leap h (walk-end w f)
 
-pub map-snoc : (ps : List Piece) (p : Piece) → map piece (ps ++ (p ∷ [])) ≡ map piece ps ++ (piece p ∷ [])
-map-snoc [] p = refl
-map-snoc (q ∷ ps) p = ap {B = List Token} (λ r. piece q ∷ r) (map-snoc ps p)
+pub grouped-append : (gs hs : List (List Piece)) → grouped (gs ++ hs) ≡ grouped gs ++ grouped hs
+unfolding grouped
+grouped-append [] hs = refl
+grouped-append (g ∷ gs) hs = rw (grouped-append gs hs, append-assoc (map piece g) (groupEnd ∷ grouped gs) (grouped hs))
 
 grouped-snoc : (gs : List (List Piece)) (ps : List Piece) → grouped (gs ++ (ps ∷ [])) ≡ grouped gs ++ map piece ps ++ (groupEnd ∷ [])
 unfolding grouped
-grouped-snoc [] ps = refl
-grouped-snoc (g ∷ gs) ps = rw (grouped-snoc gs ps, append-assoc (map piece g) (groupEnd ∷ grouped gs) (map piece ps), append-assoc (map piece g) (groupEnd ∷ (grouped gs ++ map piece ps)) (groupEnd ∷ []))
+grouped-snoc gs ps = rw (grouped-append gs (ps ∷ []), append-assoc (grouped gs) (map piece ps) (groupEnd ∷ []))
 
 flat-snoc : (gs : List (List Piece)) (ps : List Piece) → flat (gs ++ (ps ∷ [])) ≡ flat gs ++ ps
 unfolding flat
@@ -83,8 +83,8 @@ run-snoc {number} {g} run-none e h f =
     run-more {plain = f .plain} j i (f .picture) run-none
 run-snoc (run-more a b f r) e h g = run-more a b f (run-snoc r (omega arith) h g)
 
--- What is held.
-
+-- What is held: the pieces of the groups closed and of the open group are lawful so far, lead to a stand and a sum, finish
+-- these items and leave these bytes begun; the run pictures the ones, the buffer the others.
 pub record Held (first : ℕ) (at : Stand) (sum : ℕ) (w : Desk) (run : List Image) (finished : List Item) (begun : List ℕ) : Type 0 where
   pub groups : List (List Piece)
   pub pieces : List Piece
@@ -123,24 +123,24 @@ module _ {first sum : ℕ} {at : Stand} {w : Desk} {run : List Image} {finished 
 
   -- One piece more of the open group.
   module _ (p : Piece) (h : Held first at sum w run finished begun) (f : Fits at sum p) where
-    told : Walk (standAfter at (kindOf p)) (sumAfter (kindOf p) sum (countOf p)) Free 0 (grouped (h .groups) ++ map piece (h .pieces ++ (p ∷ [])))
-    told = rw (map-snoc (h .pieces) p, ← append-assoc (grouped (h .groups)) (map piece (h .pieces)) (piece p ∷ [])) (walk-piece p (h .walks) f)
+    walks-on : Walk (standAfter at (kindOf p)) (sumAfter (kindOf p) sum (countOf p)) Free 0 (grouped (h .groups) ++ map piece (h .pieces ++ (p ∷ [])))
+    walks-on = rw (map-append piece (h .pieces) (p ∷ []), ← append-assoc (grouped (h .groups)) (map piece (h .pieces)) (piece p ∷ [])) (walk-piece p (h .walks) f)
 
-    told-items : itemsAfter [] (flat (h .groups) ++ (h .pieces ++ (p ∷ []))) ≡ finished ++ itemsAfter begun (p ∷ [])
-    told-items = rw (← append-assoc (flat (h .groups)) (h .pieces) (p ∷ []), items-append [] (flat (h .groups) ++ h .pieces) (p ∷ []), h .finishes, h .breaks)
+    items-on : itemsAfter [] (flat (h .groups) ++ (h .pieces ++ (p ∷ []))) ≡ finished ++ itemsAfter begun (p ∷ [])
+    items-on = rw (← append-assoc (flat (h .groups)) (h .pieces) (p ∷ []), items-append [] (flat (h .groups) ++ h .pieces) (p ∷ []), h .finishes, h .breaks)
 
-    told-open : begunAfter [] (flat (h .groups) ++ (h .pieces ++ (p ∷ []))) ≡ begunAfter begun (p ∷ [])
-    told-open = rw (← append-assoc (flat (h .groups)) (h .pieces) (p ∷ []), begun-append [] (flat (h .groups) ++ h .pieces) (p ∷ []), h .breaks)
+    begun-on : begunAfter [] (flat (h .groups) ++ (h .pieces ++ (p ∷ []))) ≡ begunAfter begun (p ∷ [])
+    begun-on = rw (← append-assoc (flat (h .groups)) (h .pieces) (p ∷ []), begun-append [] (flat (h .groups) ++ h .pieces) (p ∷ []), h .breaks)
 
     pub held-entry : dataOf p ≡ [] → span (w .state .filled) (w .state .entries + 1) ≤ w .state .size →
         Held first (standAfter at (kindOf p)) (sumAfter (kindOf p) sum (countOf p)) (layEntry (kindOf p) (countOf p) w) run (finished ++ itemsAfter begun (p ∷ [])) (begunAfter begun (p ∷ []))
     unfolding layEntry
-    held-entry e room = record { groups = h .groups; pieces = h .pieces ++ (p ∷ []); numbered = h .numbered; images = h .images; walks = told; finishes = told-items; breaks = told-open; stands = buffered-entry p e room (h .stands) }
+    held-entry e room = record { groups = h .groups; pieces = h .pieces ++ (p ∷ []); numbered = h .numbered; images = h .images; walks = walks-on; finishes = items-on; breaks = begun-on; stands = buffered-entry p e room (h .stands) }
 
     pub held-part : countOf p ≡ length (dataOf p) → span (w .state .filled + length (dataOf p)) (w .state .entries + 1) ≤ w .state .size →
         Held first (standAfter at (kindOf p)) (sumAfter (kindOf p) sum (countOf p)) (layPart (kindOf p) (dataOf p) w) run (finished ++ itemsAfter begun (p ∷ [])) (begunAfter begun (p ∷ []))
     unfolding layPart layData layEntry
-    held-part e room = record { groups = h .groups; pieces = h .pieces ++ (p ∷ []); numbered = h .numbered; images = h .images; walks = told; finishes = told-items; breaks = told-open; stands = rw e at (buffered-part p room (h .stands)) }
+    held-part e room = record { groups = h .groups; pieces = h .pieces ++ (p ∷ []); numbered = h .numbered; images = h .images; walks = walks-on; finishes = items-on; breaks = begun-on; stands = rw e at (buffered-part p room (h .stands)) }
 
   -- The group is shut, and the next call comes with another buffer.
   pub held-shut : (information g : List ℕ) → Held first at sum w run finished begun → mayFollow at Skip ≡ true → w .state .next ≤ lastNumber → informationLength ≤ w .state .size →

@@ -35,7 +35,9 @@ use Rattle.layout.specs.Layout.Run.{run-none, run-more}
 use Rattle.layout.specs.Reading.{pieceOf, piecesFrom, piecesOf, itemsAfter, begunAfter, itemsRead, begunRead}
 use Rattle.layout.specs.Accepting.{Accepts}
 use Rattle.layout.specs.Accepting.Accepts.{accepts-none, accepts-more}
+use Rattle.layout.specs.Stated.{OutOfOrder}
 use Rattle.layout.proofs.Decode.{length-entries}
+use Rattle.layout.proofs.Theorems.{exchanged}
 
 -- All that a layout and a read compute by.
 unfoldable opens : Unit {0}
@@ -91,35 +93,35 @@ run-of number (g ∷ gs) h =
     run-more (leb-true number lastNumber (a .0)) refl (pictured number (g .0) (g .1) (leb-true (length (userData (g .1)) + 4 * suc (length (g .1))) 32 (b .0))) (run-of (suc number) gs (b .1))
 
 -- A lawful layout that takes these freedoms, its acceptance, and what its rows give.
-pub record Shown (laid : List Laid) (tail : Tail) (groups : List (ℕ × List Piece)) (final : Reader) : Type 0 where
-  pub lays : Lays 64 1 (items laid) (soFar tail) (runOf 1 groups)
+pub record Shown (laid : List Laid) (tail : Tail) (run : List Image) (final : Reader) : Type 0 where
+  pub lays : Lays 64 1 (items laid) (soFar tail) run
   pub takes : (lays .laid ≡ laid) × (lays .tail ≡ tail)
   pub rows : List (List ℕ)
-  pub accepts : Accepts (fresh 64 1) (runOf 1 groups) rows final
-  pub items-read : itemsRead (runOf 1 groups) rows ≡ items laid
-  pub begun-read : begunRead (runOf 1 groups) rows ≡ soFar tail
+  pub accepts : Accepts (fresh 64 1) run rows final
+  pub items-read : itemsRead run rows ≡ items laid
+  pub begun-read : begunRead run rows ≡ soFar tail
 
 pub starts : readerStartCall 64 1 ≡ start.Started (fresh 64 1)
 unfolding opens
 starts = refl
 
-shown : {laid : List Laid} {tail : Tail} {groups : List (ℕ × List Piece)} {rows : List (List ℕ)} {final : Reader} → Each (SoundLaid 64) laid → SoundTail 64 tail →
-    tokens laid tail ≡ grouped (piecesOfEach groups) → fitting 1 groups ≡ true → Accepts (fresh 64 1) (runOf 1 groups) rows final →
-    itemsRead (runOf 1 groups) rows ≡ items laid → begunRead (runOf 1 groups) rows ≡ soFar tail → Shown laid tail groups final
-shown {laid} {tail} {groups} {rows} sound soundTail groupsOf fits accepts i b =
+shown : {laid : List Laid} {tail : Tail} {run : List Image} {rows : List (List ℕ)} {final : Reader} (groups : List (List Piece)) → Each (SoundLaid 64) laid → SoundTail 64 tail →
+    tokens laid tail ≡ grouped groups → Run 64 1 groups run → Accepts (fresh 64 1) run rows final → itemsRead run rows ≡ items laid → begunRead run rows ≡ soFar tail →
+    Shown laid tail run final
+shown {laid} {tail} {rows} groups sound soundTail groupsOf images accepts i b =
     record {
       lays = record {
         sized = refl;
         numbered = refl;
         laid = laid;
         tail = tail;
-        groups = piecesOfEach groups;
+        groups = groups;
         sound = sound;
         soundTail = soundTail;
         finishes = refl;
         breaks = refl;
         groupsOf = groupsOf;
-        images = run-of 1 groups fits;
+        images = images;
       };
       takes = (refl, refl);
       rows = rows;
@@ -128,12 +130,42 @@ shown {laid} {tail} {groups} {rows} sound soundTail groupsOf fits accepts i b =
       begun-read = b;
     }
 
+-- The same of groups made here.
+made : {laid : List Laid} {tail : Tail} {rows : List (List ℕ)} {final : Reader} (groups : List (ℕ × List Piece)) → Each (SoundLaid 64) laid → SoundTail 64 tail →
+    tokens laid tail ≡ grouped (piecesOfEach groups) → fitting 1 groups ≡ true → Accepts (fresh 64 1) (runOf 1 groups) rows final →
+    itemsRead (runOf 1 groups) rows ≡ items laid → begunRead (runOf 1 groups) rows ≡ soFar tail → Shown laid tail (runOf 1 groups) final
+made groups sound soundTail groupsOf fits = shown (piecesOfEach groups) sound soundTail groupsOf (run-of 1 groups fits)
+
 -- A state between groups, and rows of other numbers, more than are asked for.
 abbrev at : ℕ → Phase → ℕ → Reader
 at next p sum = record { size = 64; next = next; phase = p; sum = sum }
 
 abbrev old : List ℕ
 old = replicate 30 5
+
+-- Case A of document 01, byte for byte, with its rows; the tenth number lent is untouched.
+abbrev pub caseA : Image
+caseA =
+    record {
+      number = 1;
+      entries = 3;
+      bytes = replicate 20 0x41 ++ (0x80 ∷ 0 ∷ 0 ∷ 0x2C ∷ 0x07 ∷ 0 ∷ 0 ∷ 0 ∷ 0x63 ∷ 0 ∷ 0 ∷ 0x14 ∷ replicate 32 0);
+    }
+
+case-a-pictured : Pictures 64 9 (anEntire (replicate 20 0x41) ∷ aSeparator 0 ∷ []) caseA
+unfolding opens
+case-a-pictured = record { gap = []; information = replicate 32 0; thirtyTwo = refl; counted = refl; filled = refl; stands = refl }
+
+case-a-accepted : Accepts (fresh 64 1) (caseA ∷ []) ((6 ∷ 0 ∷ 20 ∷ 2 ∷ 20 ∷ 0 ∷ 7 ∷ 20 ∷ 44 ∷ 5 ∷ []) ∷ []) (at 2 phase.Free 0)
+unfolding opens
+case-a-accepted = accepts-more {t = at 2 phase.Free 0} (replicate 10 5) refl accepts-none
+
+pub case-a-shown : Shown (laidEntire (replicate 20 0x41) ∷ laidSeparator 0 ∷ endedEarly ∷ []) noneOpen (caseA ∷ []) (at 2 phase.Free 0)
+unfolding opens
+case-a-shown =
+    shown ((anEntire (replicate 20 0x41) ∷ aSeparator 0 ∷ []) ∷ [])
+    (each-more (sound-entire (lit≤ tt) (lit≤ tt)) (each-more (sound-separator (lit≤ tt)) (each-more sound-early each-none))) sound-none
+    refl (run-more (lit≤ tt) refl case-a-pictured run-none) case-a-accepted refl refl
 
 -- An entire record, and separators of both values.
 abbrev mixed : List Piece
@@ -142,72 +174,109 @@ mixed = anEntire (1 ∷ 2 ∷ 3 ∷ []) ∷ aSeparator 0 ∷ aSeparator 1 ∷ []
 abbrev mixed-laid : List Laid
 mixed-laid = laidEntire (1 ∷ 2 ∷ 3 ∷ []) ∷ laidSeparator 0 ∷ laidSeparator 1 ∷ endedEarly ∷ []
 
-mixed-shown : {plain : ℕ} {rows : List (List ℕ)} → Accepts (fresh 64 1) (runOf 1 ((plain, mixed) ∷ [])) rows (at 2 phase.Free 0) →
-    itemsRead (runOf 1 ((plain, mixed) ∷ [])) rows ≡ items mixed-laid → begunRead (runOf 1 ((plain, mixed) ∷ [])) rows ≡ [] → Shown mixed-laid noneOpen ((plain, mixed) ∷ []) (at 2 phase.Free 0)
+mixed-shown : (plain : ℕ) {rows : List (List ℕ)} → Accepts (fresh 64 1) (runOf 1 ((plain, mixed) ∷ [])) rows (at 2 phase.Free 0) →
+    itemsRead (runOf 1 ((plain, mixed) ∷ [])) rows ≡ items mixed-laid → begunRead (runOf 1 ((plain, mixed) ∷ [])) rows ≡ [] → Shown mixed-laid noneOpen (runOf 1 ((plain, mixed) ∷ [])) (at 2 phase.Free 0)
 unfolding opens fitting
-mixed-shown a i b =
-    shown (each-more (sound-entire (lit≤ tt) (lit≤ tt)) (each-more (sound-separator (lit≤ tt)) (each-more (sound-separator (lit≤ tt)) (each-more sound-early each-none)))) sound-none
+mixed-shown plain a i b =
+    made ((plain, mixed) ∷ []) (each-more (sound-entire (lit≤ tt) (lit≤ tt)) (each-more (sound-separator (lit≤ tt)) (each-more (sound-separator (lit≤ tt)) (each-more sound-early each-none)))) sound-none
     refl refl a i b
 
 -- Entire, separators of both values, an early end; b4 never set.
-pub entire-shown : Shown mixed-laid noneOpen ((9, mixed) ∷ []) (at 2 phase.Free 0)
+pub entire-shown : Shown mixed-laid noneOpen (runOf 1 ((9, mixed) ∷ [])) (at 2 phase.Free 0)
 unfolding opens groupOf runOf
-entire-shown = mixed-shown {plain = 9} (accepts-more {t = at 2 phase.Free 0} old refl accepts-none) refl refl
+entire-shown = mixed-shown 9 (accepts-more {t = at 2 phase.Free 0} old refl accepts-none) refl refl
 
--- b4 beginning at each entry of a group, the skip with them.
-pub b4-shown : Each (λ (plain : ℕ). Shown mixed-laid noneOpen ((plain, mixed) ∷ []) (at 2 phase.Free 0)) (0 ∷ 1 ∷ 2 ∷ 3 ∷ [])
+-- b4 beginning at each entry of a group in turn, the last time at its skip.
+pub b4-shown : Each (λ (plain : ℕ). Shown mixed-laid noneOpen (runOf 1 ((plain, mixed) ∷ [])) (at 2 phase.Free 0)) (0 ∷ 1 ∷ 2 ∷ 3 ∷ [])
 unfolding opens groupOf runOf
 b4-shown =
-    each-more (mixed-shown {plain = 0} (accepts-more {t = at 2 phase.Free 0} old refl accepts-none) refl refl)
-    (each-more (mixed-shown {plain = 1} (accepts-more {t = at 2 phase.Free 0} old refl accepts-none) refl refl)
-    (each-more (mixed-shown {plain = 2} (accepts-more {t = at 2 phase.Free 0} old refl accepts-none) refl refl)
-    (each-more (mixed-shown {plain = 3} (accepts-more {t = at 2 phase.Free 0} old refl accepts-none) refl refl) each-none)))
+    each-more (mixed-shown 0 (accepts-more {t = at 2 phase.Free 0} old refl accepts-none) refl refl)
+    (each-more (mixed-shown 1 (accepts-more {t = at 2 phase.Free 0} old refl accepts-none) refl refl)
+    (each-more (mixed-shown 2 (accepts-more {t = at 2 phase.Free 0} old refl accepts-none) refl refl)
+    (each-more (mixed-shown 3 (accepts-more {t = at 2 phase.Free 0} old refl accepts-none) refl refl) each-none)))
 
 -- Spanned over three groups, its total in its last part's group; b4 begins anew in each group. A record follows.
-pub spanned-shown : Shown (laidSpanned (1 ∷ 2 ∷ []) ((3 ∷ []) ∷ []) (4 ∷ 5 ∷ []) false ∷ laidEntire (6 ∷ []) ∷ endedEarly ∷ []) noneOpen
-    ((0, aStart (1 ∷ 2 ∷ []) ∷ []) ∷ (1, aMiddle (3 ∷ []) ∷ []) ∷ (2, aLast (4 ∷ 5 ∷ []) ∷ aTotal 5 ∷ anEntire (6 ∷ []) ∷ []) ∷ []) (at 4 phase.Free 0)
+abbrev three : List (ℕ × List Piece)
+three = (0, aStart (1 ∷ 2 ∷ []) ∷ []) ∷ (1, aMiddle (3 ∷ []) ∷ []) ∷ (2, aLast (4 ∷ 5 ∷ []) ∷ aTotal 5 ∷ anEntire (6 ∷ []) ∷ []) ∷ []
+
+pub spanned-shown : Shown (laidSpanned (1 ∷ 2 ∷ []) ((3 ∷ []) ∷ []) (4 ∷ 5 ∷ []) false ∷ laidEntire (6 ∷ []) ∷ endedEarly ∷ []) noneOpen (runOf 1 three) (at 4 phase.Free 0)
 unfolding opens groupOf runOf fitting
 spanned-shown =
-    shown
+    made three
     (each-more (sound-spanned (lit≤ tt) (each-more (lit≤ tt) each-none) (lit≤ tt) (lit≤ tt) tt) (each-more (sound-entire (lit≤ tt) (lit≤ tt)) (each-more sound-early each-none))) sound-none
     refl refl
     (accepts-more {t = at 2 phase.Inside 2} old refl (accepts-more {t = at 3 phase.Inside 3} old refl (accepts-more {t = at 4 phase.Free 0} old refl accepts-none)))
     refl refl
 
 -- A late total: a skip after the last part, and the total in the next group.
-pub late-shown : Shown (laidSpanned (1 ∷ []) [] (2 ∷ []) true ∷ endedEarly ∷ []) noneOpen
-    ((9, aStart (1 ∷ []) ∷ []) ∷ (9, aLast (2 ∷ []) ∷ []) ∷ (9, aTotal 2 ∷ []) ∷ []) (at 4 phase.Free 0)
+abbrev late : List (ℕ × List Piece)
+late = (9, aStart (1 ∷ []) ∷ []) ∷ (9, aLast (2 ∷ []) ∷ []) ∷ (9, aTotal 2 ∷ []) ∷ []
+
+pub late-shown : Shown (laidSpanned (1 ∷ []) [] (2 ∷ []) true ∷ endedEarly ∷ []) noneOpen (runOf 1 late) (at 4 phase.Free 0)
 unfolding opens groupOf runOf fitting
 late-shown =
-    shown (each-more (sound-spanned (lit≤ tt) each-none (lit≤ tt) (lit≤ tt) tt) (each-more sound-early each-none)) sound-none
+    made late (each-more (sound-spanned (lit≤ tt) each-none (lit≤ tt) (lit≤ tt) tt) (each-more sound-early each-none)) sound-none
     refl refl
     (accepts-more {t = at 2 phase.Inside 1} old refl (accepts-more {t = at 3 phase.Owed 2} old refl (accepts-more {t = at 4 phase.Free 0} old refl accepts-none)))
     refl refl
 
--- Early ends: empty groups, first, between and last.
-pub early-shown : Shown (endedEarly ∷ laidEntire (1 ∷ []) ∷ endedEarly ∷ endedEarly ∷ []) noneOpen ((0, []) ∷ (9, anEntire (1 ∷ []) ∷ []) ∷ (9, []) ∷ []) (at 4 phase.Free 0)
+-- Early ends: empty groups, first and last, and one between.
+abbrev early : List (ℕ × List Piece)
+early = (0, []) ∷ (9, anEntire (1 ∷ []) ∷ []) ∷ (1, []) ∷ (9, aSeparator 0 ∷ []) ∷ (9, []) ∷ []
+
+pub early-shown : Shown (endedEarly ∷ laidEntire (1 ∷ []) ∷ endedEarly ∷ endedEarly ∷ laidSeparator 0 ∷ endedEarly ∷ endedEarly ∷ []) noneOpen (runOf 1 early) (at 6 phase.Free 0)
 unfolding opens groupOf runOf fitting
 early-shown =
-    shown (each-more sound-early (each-more (sound-entire (lit≤ tt) (lit≤ tt)) (each-more sound-early (each-more sound-early each-none)))) sound-none
+    made early
+    (each-more sound-early (each-more (sound-entire (lit≤ tt) (lit≤ tt)) (each-more sound-early (each-more sound-early (each-more (sound-separator (lit≤ tt)) (each-more sound-early (each-more sound-early each-none))))))) sound-none
     refl refl
-    (accepts-more {t = at 2 phase.Free 0} old refl (accepts-more {t = at 3 phase.Free 0} old refl (accepts-more {t = at 4 phase.Free 0} old refl accepts-none)))
+    (accepts-more {t = at 2 phase.Free 0} old refl (accepts-more {t = at 3 phase.Free 0} old refl (accepts-more {t = at 4 phase.Free 0} old refl
+    (accepts-more {t = at 5 phase.Free 0} old refl (accepts-more {t = at 6 phase.Free 0} old refl accepts-none)))))
     refl refl
 
 -- Broken off inside a record, after a separator.
-pub inside-shown : Shown (laidSeparator 1 ∷ []) (brokenInside (1 ∷ []) ((2 ∷ 3 ∷ []) ∷ []))
-    ((9, aSeparator 1 ∷ aStart (1 ∷ []) ∷ []) ∷ (9, aMiddle (2 ∷ 3 ∷ []) ∷ []) ∷ []) (at 3 phase.Inside 3)
+abbrev inside : List (ℕ × List Piece)
+inside = (9, aSeparator 1 ∷ aStart (1 ∷ []) ∷ []) ∷ (9, aMiddle (2 ∷ 3 ∷ []) ∷ []) ∷ []
+
+pub inside-shown : Shown (laidSeparator 1 ∷ []) (brokenInside (1 ∷ []) ((2 ∷ 3 ∷ []) ∷ [])) (runOf 1 inside) (at 3 phase.Inside 3)
 unfolding opens groupOf runOf fitting
 inside-shown =
-    shown (each-more (sound-separator (lit≤ tt)) each-none) (sound-inside (lit≤ tt) (each-more (lit≤ tt) each-none) (lit≤ tt))
+    made inside (each-more (sound-separator (lit≤ tt)) each-none) (sound-inside (lit≤ tt) (each-more (lit≤ tt) each-none) (lit≤ tt))
     refl refl
     (accepts-more {t = at 2 phase.Inside 1} old refl (accepts-more {t = at 3 phase.Inside 3} old refl accepts-none))
     refl refl
 
 -- A total owed at the end.
-pub owed-shown : Shown [] (brokenOwed (1 ∷ []) [] (2 ∷ [])) ((9, aStart (1 ∷ []) ∷ []) ∷ (9, aLast (2 ∷ []) ∷ []) ∷ []) (at 3 phase.Owed 2)
+abbrev owed : List (ℕ × List Piece)
+owed = (9, aStart (1 ∷ []) ∷ []) ∷ (9, aLast (2 ∷ []) ∷ []) ∷ []
+
+pub owed-shown : Shown [] (brokenOwed (1 ∷ []) [] (2 ∷ [])) (runOf 1 owed) (at 3 phase.Owed 2)
 unfolding opens groupOf runOf fitting
 owed-shown =
-    shown each-none (sound-owed (lit≤ tt) each-none (lit≤ tt) (lit≤ tt) tt)
+    made owed each-none (sound-owed (lit≤ tt) each-none (lit≤ tt) (lit≤ tt) tt)
     refl refl
     (accepts-more {t = at 2 phase.Inside 1} old refl (accepts-more {t = at 3 phase.Owed 2} old refl accepts-none))
     refl refl
+
+-- "only the number tells equal middles apart": a record with two middles of one length, whatever their bytes. So where x y and
+-- z w change places and their groups are numbered anew, the run is accepted as another record ..
+abbrev pub equalMiddles : ℕ → ℕ → ℕ → ℕ → List (ℕ × List Piece)
+equalMiddles x y z w = (9, aStart (1 ∷ []) ∷ []) ∷ (9, aMiddle (x ∷ y ∷ []) ∷ []) ∷ (9, aMiddle (z ∷ w ∷ []) ∷ []) ∷ (9, aLast (4 ∷ []) ∷ aTotal 6 ∷ []) ∷ []
+
+pub middles-shown : (x y z w : ℕ) → Shown (laidSpanned (1 ∷ []) ((x ∷ y ∷ []) ∷ (z ∷ w ∷ []) ∷ []) (4 ∷ []) false ∷ endedEarly ∷ []) noneOpen (runOf 1 (equalMiddles x y z w)) (at 5 phase.Free 0)
+unfolding opens groupOf runOf fitting
+middles-shown x y z w =
+    made (equalMiddles x y z w)
+    (each-more (sound-spanned (lit≤ tt) (each-more (lit≤ tt) (each-more (lit≤ tt) each-none)) (lit≤ tt) (lit≤ tt) tt) (each-more sound-early each-none)) sound-none
+    refl refl
+    (accepts-more {t = at 2 phase.Inside 1} old refl (accepts-more {t = at 3 phase.Inside 3} old refl
+    (accepts-more {t = at 4 phase.Inside 5} old refl (accepts-more {t = at 5 phase.Free 0} old refl accepts-none))))
+    refl refl
+
+-- .. and with the numbers that they bore it is refused with 5, although its total matches.
+pub exchanged-shown : (x y z w : ℕ) → OutOfOrder (fresh 64 1) (groupOf 1 9 (aStart (1 ∷ []) ∷ []) ∷ []) (groupOf 3 9 (aMiddle (z ∷ w ∷ []) ∷ []))
+    (groupOf 2 9 (aMiddle (x ∷ y ∷ []) ∷ []) ∷ groupOf 4 9 (aLast (4 ∷ []) ∷ aTotal 6 ∷ []) ∷ [])
+unfolding runOf
+exchanged-shown x y z w =
+    exchanged 64 1 (fresh 64 1) starts (groupOf 1 9 (aStart (1 ∷ []) ∷ []) ∷ []) [] (groupOf 4 9 (aLast (4 ∷ []) ∷ aTotal 6 ∷ []) ∷ [])
+    (groupOf 2 9 (aMiddle (x ∷ y ∷ []) ∷ [])) (groupOf 3 9 (aMiddle (z ∷ w ∷ []) ∷ [])) (middles-shown x y z w .rows) (at 5 phase.Free 0) (middles-shown x y z w .accepts)

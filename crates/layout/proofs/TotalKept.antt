@@ -3,15 +3,17 @@
 use Prim.Native.Nat.{ℕ, _+_, _≤_}
 use native.Mathlib.Omega.{arith}
 use mathlib.Core.List.{List, [], _∷_, _++_, map, append-assoc, map-append}
-use mathlib.Core.Bool.{true, false≢true}
+use mathlib.Core.Bool.{Bool, true, false, _||_, false≢true}
 use mathlib.Core.Path.{_≡_, refl, sym, ap, _∙_, subst}
 use lib.ListN.{length, length-append}
-use Rattle.group.specs.declared.Kind.the-variants.{Skip}
+use lib.Dec.{eqb}
+use Rattle.group.specs.declared.Kind.the-variants.{Total, Skip}
 use Rattle.group.specs.declared.Phase.{Phase}
 use Rattle.group.specs.declared.Phase.the-variants as phase
+use Rattle.group.specs.Flags.{kindNumber}
 use Rattle.reader.specs.declared.Stand.{Stand}
 use Rattle.reader.specs.declared.Stand.the-variants.{Free, AfterPart, Inside, AfterLast, Owed}
-use Rattle.reader.specs.Rules.{mayFollow, standAfter, standAt, phaseAfter}
+use Rattle.reader.specs.Rules.{isAmong, mayFollow, standAfter, standAt, phaseAfter}
 use Rattle.writer.specs.Laying.{Desk}
 use Rattle.layout.specs.Items.{Piece, Token, grouped}
 use Rattle.layout.specs.Items.Token.{piece, groupEnd}
@@ -25,7 +27,7 @@ use Rattle.layout.proofs.Assembled.{piecesIn, flat, in-grouped}
 use Rattle.layout.proofs.Grammar.{Fits, Walk, Between, total-equals}
 use Rattle.layout.proofs.Grammar.Between.{b-free, b-inside, b-owed}
 use Rattle.layout.proofs.Grammar.Walk.{stop, step, leap}
-use Rattle.layout.proofs.Held.{begun-append}
+use Rattle.layout.proofs.Held.{begun-append, grouped-append}
 use Rattle.layout.proofs.Accounts.{Hand}
 use Rattle.layout.proofs.Returned.{at-close}
 
@@ -65,11 +67,6 @@ behind-end : {to mid : Stand} {n m : ℕ} {ts : List Token} → Walk to n mid m 
 behind-end (leap h w) = (h, w)
 
 -- Tokens and bytes of groups that are cut.
-grouped-append : (gs hs : List (List Piece)) → grouped (gs ++ hs) ≡ grouped gs ++ grouped hs
-unfolding grouped
-grouped-append [] hs = refl
-grouped-append (g ∷ gs) hs = rw (grouped-append gs hs, append-assoc (map piece g) (groupEnd ∷ grouped gs) (grouped hs))
-
 grouped-cut : (before after : List (List Piece)) (left right : List Piece) (p : Piece) →
     grouped (before ++ ((left ++ (p ∷ right)) ∷ after)) ≡ grouped before ++ (map piece left ++ (piece p ∷ (map piece right ++ (groupEnd ∷ grouped after))))
 unfolding grouped
@@ -104,14 +101,14 @@ after-last m (aStart bs) f = absurd (false≢true (f .follows))
 after-last m (aLast bs) f = absurd (false≢true (f .follows))
 after-last m (anEntire bs) f = absurd (false≢true (f .follows))
 
+-- What may follow where a total is owed may follow a last part.
+or-more : (a b : Bool) → a || false ≡ true → a || b ≡ true
+or-more true b h = refl
+or-more false b h = absurd (false≢true h)
+
 where-owed : (m : ℕ) (p : Piece) → Fits Owed m p → OnlyTotal m p
-unfolding mayFollow kindOf countOf
-where-owed m (aTotal k) f = only-total (total-equals k m (f .kept))
-where-owed m (aSeparator v) f = absurd (false≢true (f .follows))
-where-owed m (aMiddle bs) f = absurd (false≢true (f .follows))
-where-owed m (aStart bs) f = absurd (false≢true (f .follows))
-where-owed m (aLast bs) f = absurd (false≢true (f .follows))
-where-owed m (anEntire bs) f = absurd (false≢true (f .follows))
+unfolding mayFollow
+where-owed m p f = after-last m p (record { follows = or-more (eqb (kindNumber (kindOf p)) (kindNumber Total)) (isAmong (kindOf p) (Skip ∷ [])) (f .follows); kept = f .kept; small = f .small })
 
 -- A run that ends owed leaves nothing to offer.
 none-asked : (a : Account) (f : Phase) → Owed ≡ standAt f → Hand f a → a .asked ≡ []
