@@ -3,3 +3,5 @@ pub mod RowLaws
 pub mod SmallRows
 pub mod Told
 pub mod Writing
+pub mod Reading
+pub mod Theorems
