@@ -5,3 +5,4 @@ pub mod Told
 pub mod Writing
 pub mod Reading
 pub mod Theorems
+pub mod Shown
