@@ -1,0 +1,8 @@
+-- What the theorems are made of, and the theorems.
+pub mod RowLaws
+pub mod SmallRows
+pub mod Told
+pub mod Writing
+pub mod Reading
+pub mod Theorems
+pub mod Shown

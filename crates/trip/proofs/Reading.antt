@@ -1,0 +1,127 @@
+-- A run that the reader accepts is accepted through the slices, and the rows that the reads leave hold the same numbers.
+-- Assumes nothing.
+use mathlib.Core.Path.{_≡_, refl, sym, ap, _∙_, subst}
+use mathlib.Core.Bool.{Bool, true, cond, _&&_}
+use mathlib.Core.List.{List, [], _∷_}
+use Prim.Native.Nat.{ℕ, _*_, _/_, _^_, _≤_, _<_}
+use native.Mathlib.Omega.{arith}
+use lib.ListN.{length, getD}
+use Rattle.group.specs.declared.Phase.{Phase}
+use Rattle.group.specs.declared.Phase.the-variants.{Free, Inside, Owed}
+use Rattle.group.specs.Sizes.{leastSize, standardSize, lastNumber}
+use Rattle.group.specs.Store.{put}
+use Rattle.group.proofs.Tests.{within}
+use Rattle.group.proofs.StateLaws.{Run, started, sound-of-run}
+use Rattle.reader.specs.declared.Reader.{Reader}
+use Rattle.reader.specs.declared.ReaderStart.{ReaderStart}
+use Rattle.reader.specs.declared.ReaderStart.the-variants as start
+use Rattle.reader.specs.declared.ReadAnswer.{ReadAnswer}
+use Rattle.reader.specs.declared.ReadAnswer.the-variants as read
+use Rattle.reader.specs.Answer.{sound, fresh, readerStartCall, startTold, readCall, groupRows, rowsLeft, inBytes, told}
+use Rattle.reader.proofs.RowBytes.{length-in-bytes}
+use Rattle.reader.proofs.Sound.{sound-again}
+use Rattle.layout.specs.Layout.{Image}
+use Rattle.layout.specs.Accepting.{Accepts, Lent, lentTo}
+use Rattle.layout.proofs.Complete.{begun-at}
+use Rattle.dds.specs.Slices.{readerLength, answerLength, lengthsKept, field, phaseNumber, phaseMeant, readerOf, readerNumbers, readerMeant}
+use Rattle.dds.specs.Calls.{Outcome, outcome, answered, ofLengths, ofMeaning, readerStarted, ddsReaderStart, readState, ddsRead}
+use Rattle.dds.proofs.SliceLaws.{field-of-bytes}
+use Rattle.dds.proofs.States.{reader-of-bytes, sound-reader-fits}
+use Rattle.trip.specs.ThroughC.{rowNumbers, Loan, LentC, AcceptsC}
+use Rattle.trip.proofs.RowLaws.{length-numbers, numbers-put}
+use Rattle.trip.proofs.SmallRows.{small-rows, length-group-rows}
+
+-- The bytes of a reader's state.
+abbrev pub slice : Reader → List ℕ
+slice s = inBytes (readerNumbers s)
+
+-- What a call that is accepted returns and leaves.
+abbrev accepted : Reader → List ℕ → Outcome
+accepted s lent = answered (0 ∷ 0 ∷ 0 ∷ 0 ∷ 0 ∷ 0 ∷ []) (slice s) lent
+
+-- Slices of their lengths are let through.
+long-slice : (s : Reader) → length (slice s) ≡ readerLength
+long-slice s = length-in-bytes (readerNumbers s)
+
+meant-slice : (s : Reader) → readerMeant (slice s) ≡ true
+unfolding readerMeant
+meant-slice s = rw (field-of-bytes (readerNumbers s) 2 (omega arith) (small (s .phase))) (meant (s .phase))
+  where
+    small : (p : Phase) → phaseNumber p < 256 ^ 4
+    small Free = omega arith
+    small Inside = omega arith
+    small Owed = omega arith
+
+    meant : (p : Phase) → phaseMeant (phaseNumber p) ≡ true
+    meant Free = refl
+    meant Inside = refl
+    meant Owed = refl
+
+pub held-slice : (s : Reader) → sound s ≡ true → readerOf (slice s) ≡ s
+held-slice s h = reader-of-bytes s (sound-reader-fits s h)
+
+kept-lengths : (state answer : List ℕ) → length state ≡ readerLength → length answer ≡ answerLength → lengthsKept (length state) readerLength (length answer) ≡ true
+unfolding lengthsKept
+kept-lengths state answer e f = rw (e, f)
+
+-- The start.
+pub starts-through : (size first : ℕ) (s : Reader) (state answer : List ℕ) → readerStartCall size first ≡ start.Started s → length state ≡ readerLength → length answer ≡ answerLength →
+    ddsReaderStart size first state answer ≡ accepted s []
+unfolding ddsReaderStart ofLengths
+starts-through size first s state answer e f g = rw (kept-lengths state answer f g, e)
+
+pub sound-fresh : (size first : ℕ) (s : Reader) → readerStartCall size first ≡ start.Started s → sound s ≡ true
+sound-fresh size first s e =
+    let b = begun-at size first s e in
+    let l = within leastSize size standardSize (started size first (b .0) .0) in
+    let n = within 1 first lastNumber (started size first (b .0) .1) in
+    let run : Run size first Free 0 = record { least = l .0; most = l .1; some = n .0; number = omega arith; kept = refl } in
+    subst (λ (r : Reader). sound r ≡ true) (sym (b .1)) (sound-of-run size first Free 0 run)
+
+-- A read.
+read-through : (s t : Reader) (group : List ℕ) (number n : ℕ) (rows answer : List ℕ) → sound s ≡ true → length answer ≡ answerLength →
+    readCall s group number n (length rows / 4) ≡ read.Accepted t →
+    ddsRead (slice s) group number n rows answer ≡ accepted t (put rows 0 (inBytes (groupRows s group n)))
+unfolding ddsRead ofLengths ofMeaning
+read-through s t group number n rows answer h l e = rw (kept-lengths (slice s) answer (long-slice s) l, meant-slice s, held-slice s h, e)
+
+-- The row numbers for which the loans have room.
+abbrev pub numbersLent : List Loan → List (List ℕ)
+numbersLent [] = []
+numbersLent (loan ∷ loans) = rowNumbers (loan .rows) ∷ numbersLent loans
+
+pub enough-lent : {run : List Image} {loans : List Loan} → LentC run loans → Lent run (numbersLent loans)
+enough-lent LentC.lent-none = Lent.lent-none
+enough-lent (LentC.lent-more {g} {gs} {loan} h l r) =
+    let long : 3 * g .entries ≤ length (rowNumbers (loan .rows)) = omega (arith, length-numbers (loan .rows)) in
+    Lent.lent-more long (enough-lent r)
+
+one-more : (s t : Reader) (g : Image) (loan : Loan) (old : List ℕ) {gs : List Image} {loans : List Loan} {rows : List (List ℕ)} {final : List ℕ} →
+    sound s ≡ true → 12 * g .entries ≤ length (loan .rows) → length (loan .answer) ≡ answerLength → old ≡ rowNumbers (loan .rows) →
+    readCall s (g .bytes) (g .number) (g .entries) (length old) ≡ read.Accepted t → AcceptsC (slice t) gs loans rows final →
+    AcceptsC (slice s) (g ∷ gs) (loan ∷ loans) (rowsLeft (readCall s (g .bytes) (g .number) (g .entries) (length old)) (groupRows s (g .bytes) (g .entries)) old ∷ rows) final
+one-more s t g loan old {gs} {loans} {rows} {final} h long l same e a =
+    let new : List ℕ = groupRows s (g .bytes) (g .entries) in
+    let room : length old ≡ length (loan .rows) / 4 = ap length same ∙ length-numbers (loan .rows) in
+    let f : readCall s (g .bytes) (g .number) (g .entries) (length (loan .rows) / 4) ≡ read.Accepted t = ap (readCall s (g .bytes) (g .number) (g .entries)) (sym room) ∙ e in
+    let d = read-through s t (g .bytes) (g .number) (g .entries) (loan .rows) (loan .answer) h l f in
+    let small = small-rows s t (g .bytes) (g .number) (g .entries) (length old) e in
+    let left : rowNumbers (put (loan .rows) 0 (inBytes new)) ≡ put (rowNumbers (loan .rows)) 0 new =
+    numbers-put (loan .rows) new small (omega (arith, length-group-rows s (g .bytes) (g .entries))) in
+    let row : rowNumbers (put (loan .rows) 0 (inBytes new)) ≡ rowsLeft (readCall s (g .bytes) (g .number) (g .entries) (length old)) new old =
+    left ∙ ap (λ (k : List ℕ). put k 0 new) (sym same) ∙ sym (ap (λ (x : ReadAnswer). rowsLeft x new old) e) in
+    subst (λ (k : List ℕ). AcceptsC (slice s) (g ∷ gs) (loan ∷ loans) (k ∷ rows) final) row (AcceptsC.accepts-more d refl a)
+
+-- A whole run, by loans that have room for just the row numbers that the reads were lent.
+pub accepted-through : {s t : Reader} {run : List Image} {rows : List (List ℕ)} {loans : List Loan} (a : Accepts s run rows t) → sound s ≡ true → LentC run loans →
+    lentTo a ≡ numbersLent loans → AcceptsC (slice s) run loans rows (slice t)
+unfolding lentTo
+accepted-through Accepts.accepts-none h LentC.lent-none e = AcceptsC.accepts-none
+accepted-through (Accepts.accepts-more {s} {t} {u} {g} {gs} {rows} old e a) h (LentC.lent-more {loan = loan} {loans = loans} long l r) q =
+    let same : old ≡ rowNumbers (loan .rows) = cc in
+    let rest : lentTo a ≡ numbersLent loans = cc in
+    one-more s t g loan old h long l same e (accepted-through a (sound-again s t (g .bytes) (g .number) (g .entries) (length old) e) r rest)
+
+pub sound-end : {s t : Reader} {run : List Image} {rows : List (List ℕ)} → Accepts s run rows t → sound s ≡ true → sound t ≡ true
+sound-end Accepts.accepts-none h = h
+sound-end (Accepts.accepts-more {s} {t} {u} {g} old e a) h = sound-end a (sound-again s t (g .bytes) (g .number) (g .entries) (length old) e)

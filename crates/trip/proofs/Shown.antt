@@ -1,0 +1,75 @@
+-- Writings from C by computation, so that the theorems do not speak of nothing: a record that spans two groups, with its total
+-- laid in a third; refused calls and slices of other lengths in between; and loans with which the run is read.
+-- Assumes nothing.
+use Prim.Native.Nat.{ℕ}
+use native.Mathlib.Omega.{arith}
+use mathlib.Core.List.{List, [], _∷_}
+use mathlib.Core.Bool.{true, false}
+use mathlib.Core.Path.{_≡_, refl}
+use borrow.Author.Tests.{leb-true}
+use lib.ListN.{length, replicate}
+use Rattle.reader.specs.Answer.{inBytes}
+use Rattle.writer.specs.Calls.{startTold}
+use Rattle.writer.specs.Calls.Call.{aRecord, aSeparator, anEnd}
+use Rattle.layout.specs.Items.Item.{recordItem, separatorItem}
+use Rattle.layout.specs.Layout.{Image}
+use Rattle.layout.specs.Writing.{Account, blank, totalLaid, inHand, afterRecord, afterSeparator, noted, imageOf}
+use Rattle.layout.specs.BenchTable.{from}
+use Rattle.layout.proofs.Bench.{opens}
+use Rattle.dds.specs.Slices.{lengthsKept, writerOf, writerMeant}
+use Rattle.dds.specs.Calls.{ofLengths, ofMeaning, ddsWriterStart, writing, ddsRecord, ddsSeparator, ddsEnd}
+use Rattle.trip.specs.ThroughC.{callC, Loan, LentC, WroteC}
+use Rattle.trip.specs.ThroughC.WroteC.{begins, goes-on, closes, refused}
+use Rattle.trip.specs.Stated.{GivesBackC}
+use Rattle.trip.proofs.Theorems.{c-returned}
+
+-- A writing from C of so many groups, and loans for reading them.
+pub record Shows (groups : ℕ) (closed now : Account) : Type 0 where
+  pub state : List ℕ
+  pub group : List ℕ
+  pub run : List Image
+  pub wrote : WroteC 64 1 state group run closed now
+  pub many : length run ≡ groups
+  pub loans : List Loan
+  pub lent : LentC run loans
+
+-- Slices for a read: so many bytes of rows, and an answer.
+abbrev loan : ℕ → Loan
+loan long = record { rows = replicate long 0xAA; answer = replicate 24 0xBB }
+
+-- 45 bytes: 24 of them in the first group, the other 21 in the second, the total and a separator in the third. The state slice
+-- and the answer slices hold anything; one answer slice is a byte short, and one record empty.
+pub spanned : Shows 3 (record { finished = recordItem (from 1 45) ∷ separatorItem 1 ∷ []; begun = []; asked = [] })
+    (record { finished = recordItem (from 1 45) ∷ separatorItem 1 ∷ []; begun = []; asked = [] })
+unfolding opens blank totalLaid inHand afterRecord afterSeparator noted imageOf from inBytes startTold lengthsKept writerOf writerMeant ofLengths ofMeaning ddsWriterStart writing ddsRecord ddsSeparator ddsEnd callC
+spanned =
+    record {
+      state = _;
+      group = _;
+      run = _;
+      wrote =
+          closes (anEnd false) (replicate 24 6) (replicate 32 9) (replicate 64 2)
+          (goes-on (aSeparator 1 true) (replicate 24 7)
+          (closes (aRecord (from 25 21) false) (replicate 24 0) (replicate 32 7) (replicate 64 8)
+          (refused (anEnd true) (replicate 23 5)
+          (refused (aRecord [] false) (replicate 24 5)
+          (closes (aRecord (from 1 45) true) (replicate 24 0xFF) (replicate 32 5) (replicate 64 1)
+          (begins (replicate 32 0xEE) (replicate 24 0xDD) (replicate 64 0xEE) refl refl refl)
+          tt refl refl refl refl refl)
+          refl (λ e. omega arith))
+          refl (λ e. omega arith))
+          refl refl refl refl refl refl)
+          tt refl refl refl)
+          tt refl refl refl refl refl;
+      many = refl;
+      loans = loan 24 ∷ loan 31 ∷ loan 100 ∷ [];
+      lent =
+          LentC.lent-more (leb-true _ _ refl) refl
+          (LentC.lent-more (leb-true _ _ refl) refl
+          (LentC.lent-more (leb-true _ _ refl) refl LentC.lent-none));
+    }
+
+-- .. and the reading of it.
+pub given-back : GivesBackC 64 1 (replicate 16 0xEE) (replicate 24 0xEE) (spanned .run) (spanned .loans)
+    (record { finished = recordItem (from 1 45) ∷ separatorItem 1 ∷ []; begun = []; asked = [] })
+given-back = c-returned 64 1 (spanned .state) (spanned .group) (spanned .run) _ _ (spanned .wrote) (replicate 16 0xEE) (replicate 24 0xEE) (spanned .loans) refl refl (spanned .lent)

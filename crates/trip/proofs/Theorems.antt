@@ -1,0 +1,45 @@
+-- The theorems of this crate: the way of a run through C's slices, written and read.
+-- Assumes nothing.
+use Prim.Native.Nat.{ℕ}
+use mathlib.Core.List.{List, []}
+use mathlib.Core.Path.{_≡_, sym, ap, subst}
+use lib.ListN.{length}
+use Rattle.reader.specs.declared.Reader.{Reader}
+use Rattle.writer.specs.Laying.{desk}
+use Rattle.layout.specs.Layout.{Image}
+use Rattle.layout.specs.Stated.{EndsWith}
+use Rattle.layout.specs.Writing.{Account}
+use Rattle.layout.proofs.Theorems.{returned}
+use Rattle.dds.specs.Slices.{readerLength, answerLength, writerOf}
+use Rattle.dds.specs.Calls.{Outcome}
+use Rattle.trip.specs.ThroughC.{Loan, LentC, WroteC, AcceptsC}
+use Rattle.trip.specs.Stated.{Written, GivesBackC}
+use Rattle.trip.proofs.Writing.{written-through}
+use Rattle.trip.proofs.Reading.{slice, numbersLent, enough-lent, held-slice, starts-through, sound-fresh, accepted-through, sound-end}
+
+module _ (size first : ℕ) (state group : List ℕ) (run : List Image) (closed now : Account) (x : WroteC size first state group run closed now) where
+  -- What was written from C is what the writer's own calls wrote, on the state that the state slice holds; and the slice is the
+  -- bytes of that state, which is sound.
+  pub c-wrote : Written size first state group run closed now
+  c-wrote = written-through x
+
+  -- "A writer that lays the first call and feigns the others fails demand 3's return of what was written." The groups closed so
+  -- far, read from C with any slices that are long enough, are accepted, and the numbers of the rows give back the account at the
+  -- last close.
+  pub c-returned : (old answer : List ℕ) (loans : List Loan) → length old ≡ readerLength → length answer ≡ answerLength → LentC run loans →
+      GivesBackC size first old answer run loans closed
+  c-returned old answer loans e f l =
+      let y = returned size first (desk (writerOf state) group) run closed now (c-wrote .wrote) (numbersLent loans) (enough-lent l) in
+      let a = y .accepted in
+      let s = starts-through size first (y .reader) old answer (y .starts) e f in
+      let h = sound-fresh size first (y .reader) (y .starts) in
+      let reads = accepted-through (a .accepts) h l (a .buffers) in
+      record {
+        starts = ap (λ (o : Outcome). o .number) s;
+        rows = a .rows;
+        final = slice (a .final);
+        accepts = subst (λ (o : Outcome). AcceptsC (o .state) run loans (a .rows) (slice (a .final))) (sym s) reads;
+        items = y .items;
+        begun = y .begun;
+        ends = subst (λ (r : Reader). EndsWith (closed .begun) r) (sym (held-slice (a .final) (sound-end (a .accepts) h))) (a .ends);
+      }

@@ -1,0 +1,100 @@
+-- Writing and reading a run from C, by nothing but what C sees: the numbers that the calls of `dds` return, and what they leave
+-- in the slices.
+-- Assumes nothing.
+use Prim.Native.Nat.{ℕ, _*_, _≤_}
+use mathlib.Core.List.{List, [], _∷_, _++_}
+use mathlib.Core.Path.{_≡_}
+use lib.ListN.{length}
+use Rattle.group.specs.declared.Phase.{Phase}
+use Rattle.group.specs.Sizes.{informationLength}
+use Rattle.group.specs.Numbers.{numberAt}
+use Rattle.writer.specs.declared.WriteAnswer.{WriteAnswer}
+use Rattle.writer.specs.declared.WriteAnswer.the-variants.{Finished, Closed}
+use Rattle.writer.specs.Calls.{Call}
+use Rattle.writer.specs.Calls.Call.{aRecord, aSeparator, anEnd}
+use Rattle.layout.specs.Layout.{Image}
+use Rattle.layout.specs.Writing.{Account, blank, noted, AsAsked, imageOf}
+use Rattle.dds.specs.Slices.{answerLength, field, phaseOf, b4Number, writerOf}
+use Rattle.dds.specs.Calls.{Outcome, ddsRead, ddsWriterStart, ddsRecord, ddsSeparator, ddsEnd}
+
+-- A call through its slices: the state, the group and the answer. Whether it sets b4 is the number 0 or 1.
+unfoldable pub callC : Call → List ℕ → List ℕ → List ℕ → Outcome
+callC (aRecord bytes warn) state group answer = ddsRecord state group bytes (b4Number warn) answer
+callC (aSeparator value warn) state group answer = ddsSeparator state group value (b4Number warn) answer
+callC (anEnd warn) state group answer = ddsEnd state group (b4Number warn) answer
+
+-- The phase that the caller sees: the third number of the state slice.
+abbrev pub phaseSeen : List ℕ → Phase
+phaseSeen state = phaseOf (field state 2)
+
+-- The outcome in the answer slice: 0 where the call finished its work, 1 where it closed the group.
+abbrev pub outcomeSeen : Outcome → ℕ
+outcomeSeen o = numberAt 4 (o .answer) 8
+
+-- The closed group's number in the answer slice.
+abbrev pub numberSeen : Outcome → ℕ
+numberSeen o = numberAt 4 (o .answer) 12
+
+-- The closed group's entry count in the answer slice.
+abbrev pub entriesSeen : Outcome → ℕ
+entriesSeen o = numberAt 4 (o .answer) 16
+
+-- The bytes taken, in the answer slice.
+abbrev pub takenSeen : Outcome → ℕ
+takenSeen o = numberAt 4 (o .answer) 20
+
+-- A call that finished its work, as C sees it.
+abbrev pub finishedSeen : Outcome → WriteAnswer
+finishedSeen o = Finished (writerOf (o .state))
+
+-- A call that closed the group, as C sees it.
+abbrev pub closedSeen : Outcome → WriteAnswer
+closedSeen o = Closed (writerOf (o .state)) (numberSeen o) (entriesSeen o) (takenSeen o)
+
+-- A writing from C: the state slice and the group as they are now, the run closed so far, the account at the last close, and
+-- the account now. Every slice lent may be any slice: one of another length than its own is refused. A call that returned a
+-- number other than 0 leaves the account as it was. After a close the next call may come with any buffer of the right length.
+pub data WroteC (size first : ℕ) : List ℕ → List ℕ → List Image → Account → Account → Type 0 where
+  begins : {o : Outcome} (state answer group : List ℕ) → ddsWriterStart size first state answer ≡ o → o .number ≡ 0 → length group ≡ size →
+      WroteC size first (o .state) group [] blank blank
+  goes-on : {state group : List ℕ} {run : List Image} {closed now : Account} {o : Outcome} (c : Call) (answer : List ℕ) →
+      WroteC size first state group run closed now → AsAsked c (phaseSeen state) now →
+      callC c state group answer ≡ o → o .number ≡ 0 → outcomeSeen o ≡ 0 →
+      WroteC size first (o .state) (o .lent) run closed (noted c (phaseSeen state) (finishedSeen o) now)
+  closes : {state group : List ℕ} {run : List Image} {closed now : Account} {o : Outcome} (c : Call) (answer information buffer : List ℕ) →
+      WroteC size first state group run closed now → AsAsked c (phaseSeen state) now →
+      callC c state group answer ≡ o → o .number ≡ 0 → outcomeSeen o ≡ 1 →
+      length information ≡ informationLength → length buffer ≡ size →
+      WroteC size first (o .state) buffer (run ++ (imageOf (numberSeen o) (entriesSeen o) (o .lent) information ∷ []))
+      (noted c (phaseSeen state) (closedSeen o) now) (noted c (phaseSeen state) (closedSeen o) now)
+  refused : {state group : List ℕ} {run : List Image} {closed now : Account} {o : Outcome} (c : Call) (answer : List ℕ) →
+      WroteC size first state group run closed now →
+      callC c state group answer ≡ o → (o .number ≡ 0 → ⊥) → WroteC size first (o .state) (o .lent) run closed now
+
+-- The numbers that stand in a slice of rows, four bytes each.
+unfoldable pub rowNumbers : List ℕ → List ℕ
+rowNumbers [] = []
+rowNumbers (a ∷ []) = []
+rowNumbers (a ∷ b ∷ []) = []
+rowNumbers (a ∷ b ∷ c ∷ []) = []
+rowNumbers (a ∷ b ∷ c ∷ d ∷ more) = numberAt 4 (a ∷ b ∷ c ∷ d ∷ []) 0 ∷ rowNumbers more
+
+-- What a read is lent besides the group: a slice for its rows and one for its answer.
+pub record Loan : Type 0 where
+  pub rows : List ℕ
+  pub answer : List ℕ
+
+-- Loans for the reads of a run, any that are long enough: twelve bytes of rows per entry, and an answer slice of its length.
+pub data LentC : List Image → List Loan → Type 0 where
+  lent-none : LentC [] []
+  lent-more : {g : Image} {gs : List Image} {loan : Loan} {loans : List Loan} →
+      12 * g .entries ≤ length (loan .rows) → length (loan .answer) ≡ answerLength → LentC gs loans → LentC (g ∷ gs) (loan ∷ loans)
+
+-- A reading from C, from a state slice over a run to a state slice: each read is lent its loan, returns 0, and leaves rows
+-- whose numbers are listed.
+pub data AcceptsC : List ℕ → List Image → List Loan → List (List ℕ) → List ℕ → Type 0 where
+  accepts-none : {state : List ℕ} → AcceptsC state [] [] [] state
+  accepts-more : {state final : List ℕ} {g : Image} {gs : List Image} {loan : Loan} {loans : List Loan} {rows : List (List ℕ)} {o : Outcome} →
+      ddsRead state (g .bytes) (g .number) (g .entries) (loan .rows) (loan .answer) ≡ o → o .number ≡ 0 →
+      AcceptsC (o .state) gs loans rows final →
+      AcceptsC state (g ∷ gs) (loan ∷ loans) (rowNumbers (o .lent) ∷ rows) final
