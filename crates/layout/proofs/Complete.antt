@@ -35,7 +35,7 @@ use Rattle.layout.specs.Stated.{EndsWith}
 use Rattle.layout.specs.Accepting.{Accepts, Lent, lentTo}
 use Rattle.layout.specs.Accepting.Accepts.{accepts-none, accepts-more}
 use Rattle.layout.specs.Accepting.Lent.{lent-none, lent-more}
-use Rattle.layout.proofs.Grammar.{Walk, Open, walk-laid, tailPlace, tailSum}
+use Rattle.layout.proofs.Grammar.{Walk, Open, walk-laid, tailStand, tailSum}
 use Rattle.layout.proofs.Grammar.Walk.{stop, step, leap}
 use Rattle.layout.proofs.Grammar.Open.{o-free, o-inside, o-owed}
 use Rattle.layout.proofs.Decode.{SmallPiece, adds-up, entries-back}
@@ -69,7 +69,7 @@ past (p ∷ ps) rest (step f w) =
     record { small = each-more (f .small) (q .small); stand = q .stand; sum = q .sum; goes = q .goes }
 
 -- The walk of a lawful layout's groups.
-pub walk-of : {size first : ℕ} {i : List Item} {b : List ℕ} {run : List Image} (l : Lays size first i b run) → Walk (tailPlace (l .tail)) (tailSum (l .tail)) Free 0 (grouped (l .groups))
+pub walk-of : {size first : ℕ} {i : List Item} {b : List ℕ} {run : List Image} (l : Lays size first i b run) → Walk (tailStand (l .tail)) (tailSum (l .tail)) Free 0 (grouped (l .groups))
 walk-of l = rw (l .groupsOf) at (walk-laid (l .sound) (l .soundTail))
 
 -- The sum is kept between groups.
@@ -163,7 +163,7 @@ accepts-run s at e m (run-more {plain} {ps} {pss} {g} i j f r) (lent-more {old} 
     accepted-on old (q .answers) (accepts-run (q .left) (q .at) (q .sizes ∙ e) (q .nexts ∙ ap suc m) r more (q .goes))
 
 pub complete-to : {size first : ℕ} {i : List Item} {b : List ℕ} {run : List Image} {lent : List (List ℕ)} (l : Lays size first i b run) → Lent run lent →
-    AcceptedTo (fresh size first) run lent (tailPlace (l .tail)) (tailSum (l .tail))
+    AcceptedTo (fresh size first) run lent (tailStand (l .tail)) (tailSum (l .tail))
 complete-to {size} {first} l lent =
     let (least, most) = within 64 size 126632 (l .sized) in
     let (some, last) = within 1 first lastNumber (l .numbered) in
@@ -176,8 +176,8 @@ tail-sum noneOpen = refl
 tail-sum (brokenInside p ps) = sym (length-append p (joined ps))
 tail-sum (brokenOwed p ps q) = simp length-append (omega arith)
 
-tail-free : {size : ℕ} (f : Phase) (t : Tail) → SoundTail size t → standAt f ≡ tailPlace t → (f ≡ phase.Free) ↔ (soFar t ≡ [])
-unfolding tailPlace soFar wholeOf
+tail-free : {size : ℕ} (f : Phase) (t : Tail) → SoundTail size t → standAt f ≡ tailStand t → (f ≡ phase.Free) ↔ (soFar t ≡ [])
+unfolding tailStand soFar wholeOf
 tail-free phase.Free noneOpen o e = (λ h. refl, λ h. refl)
 tail-free phase.Inside noneOpen o e = let z : _≡_ {A = ℕ} 0 1 = cc in absurd (omega arith)
 tail-free phase.Owed noneOpen o e = let z : _≡_ {A = ℕ} 0 1 = cc in absurd (omega arith)
@@ -185,7 +185,7 @@ tail-free f (brokenInside p ps) (sound-inside a b h) e = (λ x. let y = ap stand
 tail-free f (brokenOwed p ps q) (sound-owed a b c h m) e = (λ x. let y = ap standAt x in let z : _≡_ {A = ℕ} 0 1 = cc in absurd (omega arith), λ x. absurd (let all = simp length-append at (ap length x) in omega (arith, all)))
 
 pub ends-with : {size first : ℕ} {s : Reader} {i : List Item} {b : List ℕ} {run : List Image} {lent : List (List ℕ)} (l : Lays size first i b run) →
-    (a : AcceptedTo s run lent (tailPlace (l .tail)) (tailSum (l .tail))) → EndsWith b (a .final)
+    (a : AcceptedTo s run lent (tailStand (l .tail)) (tailSum (l .tail))) → EndsWith b (a .final)
 ends-with l a =
     record {
       sum = a .sum ∙ tail-sum (l .tail) ∙ ap length (l .breaks);

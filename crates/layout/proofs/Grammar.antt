@@ -25,13 +25,13 @@ use Rattle.layout.specs.Items.Piece.{aTotal, aSeparator, aMiddle, aStart
 use Rattle.layout.specs.Items.Token.{piece, groupEnd}
 use Rattle.layout.specs.Layout.{kindOf, countOf}
 
--- A piece may stand at a place, standAfter parts that add to sum.
+-- A piece may stand at a stand, after parts that add to sum.
 pub record Fits (at : Stand) (sum : ℕ) (p : Piece) : Type 0 where
   pub follows : mayFollow at (kindOf p) ≡ true
   pub kept : countFault (kindOf p) sum (countOf p) ≡ 0
   pub small : countOf p ≤ longestRecord
 
--- The tokens lead from a place and a sum to the place `to` and the sum `n`.
+-- The tokens lead from a stand and a sum to the stand `to` and the sum `n`.
 pub data Walk (to : Stand) (n : ℕ) : Stand → ℕ → List Token → Type 0 where
   stop : Walk to n to n []
   step : {at : Stand} {sum : ℕ} {p : Piece} {ts : List Token} →
@@ -81,10 +81,10 @@ module _ {to : Stand} {n : ℕ} where
       let e : s + length (p ++ joined ps) ≡ s + length p + length (joined ps) = simp length-append (omega arith) in
       at-middle part (omega arith) (at-middles rest (omega arith) (rw e at w))
 
-unfoldable pub tailPlace : Tail → Stand
-tailPlace noneOpen = Free
-tailPlace (brokenInside p ps) = Inside
-tailPlace (brokenOwed p ps q) = Owed
+unfoldable pub tailStand : Tail → Stand
+tailStand noneOpen = Free
+tailStand (brokenInside p ps) = Inside
+tailStand (brokenOwed p ps q) = Owed
 
 unfoldable pub tailSum : Tail → ℕ
 tailSum noneOpen = 0
@@ -95,8 +95,8 @@ length-whole : (p : List ℕ) (ps : List (List ℕ)) (q : List ℕ) → length (
 unfolding wholeOf
 length-whole p ps q = simp length-append (omega arith)
 
-pub walk-tail : {size : ℕ} {t : Tail} → SoundTail size t → Walk (tailPlace t) (tailSum t) Free 0 (tailTokens t)
-unfolding tailPlace tailSum tailTokens mayFollow
+pub walk-tail : {size : ℕ} {t : Tail} → SoundTail size t → Walk (tailStand t) (tailSum t) Free 0 (tailTokens t)
+unfolding tailStand tailSum tailTokens mayFollow
 walk-tail sound-none = stop
 walk-tail (sound-inside {p} {ps} a b h) =
     let e : length (p ++ joined ps) ≡ length p + length (joined ps) = length-append p (joined ps) in
@@ -105,7 +105,7 @@ walk-tail (sound-owed {p} {ps} {q} a b c h m) =
     let e : length (wholeOf p ps q) ≡ length p + length (joined ps) + length q = length-whole p ps q in
     at-start a (omega arith) (at-middles b (omega arith) (at-last c (omega arith) (leap refl stop)))
 
-pub walk-laid : {size : ℕ} {ls : List Laid} {t : Tail} → Each (SoundLaid size) ls → SoundTail size t → Walk (tailPlace t) (tailSum t) Free 0 (tokens ls t)
+pub walk-laid : {size : ℕ} {ls : List Laid} {t : Tail} → Each (SoundLaid size) ls → SoundTail size t → Walk (tailStand t) (tailSum t) Free 0 (tokens ls t)
 unfolding tokens
 walk-laid each-none t = walk-tail t
 walk-laid (each-more (sound-entire a h) ls) t = at-entire a h (walk-laid ls t)
@@ -115,7 +115,7 @@ walk-laid (each-more (sound-spanned {p} {ps} {q} {late = l} a b c h m) ls) t =
 walk-laid (each-more (sound-separator h) ls) t = at-separator h (walk-laid ls t)
 walk-laid (each-more sound-early ls) t = at-early (walk-laid ls t)
 
--- From a walk to sound laid items. What has been read of an open record, at each place.
+-- From a walk to sound laid items. What has been read of an open record, at each stand.
 pub data Open : Stand → ℕ → Type 0 where
   o-free : Open Free 0
   o-start : {s : ℕ} (p : List ℕ) → Part p → length p ≤ (longestRecord - 1) → s ≡ length p → Open AfterPart s
@@ -248,7 +248,7 @@ take-end size (o-inside p ps a b h e) f = absurd (false≢true f)
 take-end size (o-ended p ps q a b c h e) f = record { opens = o-owed p ps q a b c h e; back = λ ts r. r }
 take-end size (o-owed p ps q a b c h e) f = absurd (false≢true f)
 
--- The places between groups.
+-- The stands between groups.
 pub data Between : Stand → Type 0 where
   b-free : Between Free
   b-inside : Between Inside

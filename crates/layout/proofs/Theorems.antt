@@ -20,7 +20,7 @@ use Rattle.layout.specs.Stated.{EndsWith, AcceptedWith, AtEnd, OutOfOrde
 use Rattle.layout.specs.Writing.{Account, Wrote}
 use Rattle.layout.specs.WritingStated.{GivesBack, TotalsKept}
 use Rattle.layout.specs.BenchTable.{Case, shown, benchTable}
-use Rattle.layout.proofs.Grammar.{tailPlace, tailSum}
+use Rattle.layout.proofs.Grammar.{tailStand, tailSum}
 use Rattle.layout.proofs.Complete.{AcceptedTo, begun-at, complete-to, ends-with}
 use Rattle.layout.proofs.OnlyOne.{reading-is, one-reading, enough}
 use Rattle.layout.proofs.Sound.{lawful-from}
@@ -38,8 +38,8 @@ module _ (size first : ℕ) (s : Reader) (begins : readerStartCall size first �
   from-fresh {run} {rows} {final} a = subst (λ (x : Reader). Accepts x run rows final) (sym is-fresh) a
 
   accepted-to : {i : List Item} {b : List ℕ} {run : List Image} {lent : List (List ℕ)} (l : Lays size first i b run) → Lent run lent →
-      AcceptedTo s run lent (tailPlace (l .tail)) (tailSum (l .tail))
-  accepted-to {run} {lent} l e = subst (λ (x : Reader). AcceptedTo x run lent (tailPlace (l .tail)) (tailSum (l .tail))) is-fresh (complete-to l e)
+      AcceptedTo s run lent (tailStand (l .tail)) (tailSum (l .tail))
+  accepted-to {run} {lent} l e = subst (λ (x : Reader). AcceptedTo x run lent (tailStand (l .tail)) (tailSum (l .tail))) is-fresh (complete-to l e)
 
   -- "Freedoms of a lawful layout: where a record is broken, where a group ends early with a skip while free, a skip after a
   -- last, the entry where b4 begins in each group, all gap bytes, the last 32 bytes, and the first group number." Whichever are
