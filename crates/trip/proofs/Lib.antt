@@ -4,5 +4,6 @@ pub mod SmallRows
 pub mod Told
 pub mod Writing
 pub mod Reading
+pub mod Settled
 pub mod Theorems
 pub mod Shown

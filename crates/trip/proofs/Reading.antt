@@ -1,11 +1,11 @@
 -- A run that the reader accepts is accepted through the slices, and the rows that the reads leave hold the same numbers.
 -- Assumes nothing.
 use mathlib.Core.Path.{_≡_, refl, sym, ap, _∙_, subst}
-use mathlib.Core.Bool.{Bool, true, cond, _&&_}
+use mathlib.Core.Bool.{true}
 use mathlib.Core.List.{List, [], _∷_}
 use Prim.Native.Nat.{ℕ, _*_, _/_, _^_, _≤_, _<_}
 use native.Mathlib.Omega.{arith}
-use lib.ListN.{length, getD}
+use lib.ListN.{length}
 use Rattle.group.specs.declared.Phase.{Phase}
 use Rattle.group.specs.declared.Phase.the-variants.{Free, Inside, Owed}
 use Rattle.group.specs.Sizes.{leastSize, standardSize, lastNumber}
@@ -13,18 +13,17 @@ use Rattle.group.specs.Store.{put}
 use Rattle.group.proofs.Tests.{within}
 use Rattle.group.proofs.StateLaws.{Run, started, sound-of-run}
 use Rattle.reader.specs.declared.Reader.{Reader}
-use Rattle.reader.specs.declared.ReaderStart.{ReaderStart}
 use Rattle.reader.specs.declared.ReaderStart.the-variants as start
 use Rattle.reader.specs.declared.ReadAnswer.{ReadAnswer}
 use Rattle.reader.specs.declared.ReadAnswer.the-variants as read
-use Rattle.reader.specs.Answer.{sound, fresh, readerStartCall, startTold, readCall, groupRows, rowsLeft, inBytes, told}
+use Rattle.reader.specs.Answer.{sound, readerStartCall, readCall, groupRows, rowsLeft, inBytes}
 use Rattle.reader.proofs.RowBytes.{length-in-bytes}
 use Rattle.reader.proofs.Sound.{sound-again}
 use Rattle.layout.specs.Layout.{Image}
 use Rattle.layout.specs.Accepting.{Accepts, Lent, lentTo}
 use Rattle.layout.proofs.Complete.{begun-at}
-use Rattle.dds.specs.Slices.{readerLength, answerLength, lengthsKept, field, phaseNumber, phaseMeant, readerOf, readerNumbers, readerMeant}
-use Rattle.dds.specs.Calls.{Outcome, outcome, answered, ofLengths, ofMeaning, readerStarted, ddsReaderStart, readState, ddsRead}
+use Rattle.dds.specs.Slices.{readerLength, answerLength, lengthsKept, phaseNumber, phaseMeant, readerOf, readerNumbers, readerMeant}
+use Rattle.dds.specs.Calls.{Outcome, answered, ofLengths, ofMeaning, ddsReaderStart, ddsRead}
 use Rattle.dds.proofs.SliceLaws.{field-of-bytes}
 use Rattle.dds.proofs.States.{reader-of-bytes, sound-reader-fits}
 use Rattle.trip.specs.ThroughC.{rowNumbers, Loan, LentC, AcceptsC}

@@ -4,9 +4,9 @@ use mathlib.Core.Path.{_≡_, refl, sym, ap, _∙_}
 use mathlib.Core.List.{List, [], _∷_, _++_, append-assoc}
 use Prim.Native.Nat.{ℕ, zero, suc, _+_, _*_, _/_, _^_, _≤_, _<_}
 use native.Mathlib.Omega.{arith}
-use lib.ListN.{length, drop, getD}
+use lib.ListN.{length, drop}
 use Rattle.group.specs.Store.{put}
-use Rattle.group.specs.Numbers.{numberAt, bytesOf}
+use Rattle.group.specs.Numbers.{bytesOf}
 use Rattle.group.proofs.Stores.{put-split}
 use Rattle.group.proofs.NumberLaws.{number-of-bytes}
 use Rattle.reader.specs.Answer.{inBytes}

@@ -14,7 +14,7 @@ use Rattle.group.specs.declared.Kind.the-variants.{Total, Separator, Middle, St
 use Rattle.group.specs.declared.Meaning.{Meaning}
 use Rattle.group.specs.declared.Meaning.the-variants.{Known, Unknown}
 use Rattle.group.specs.Sizes.{standardSize, informationLength, longestRecord}
-use Rattle.group.specs.Flags.{kindNumber, meaningOf}
+use Rattle.group.specs.Flags.{meaningOf}
 use Rattle.group.specs.Entries.{entriesBelow}
 use Rattle.group.proofs.EntryLaws.{length-entries}
 use Rattle.reader.specs.declared.Reader.{Reader}
@@ -25,9 +25,9 @@ use Rattle.reader.specs.Rules.{entryFault, skipKept, countFault}
 use Rattle.reader.specs.Scan.{after, isLast, scan, rowKind, reachedBy, rowsFrom}
 use Rattle.reader.specs.Bounds.{Bounded}
 use Rattle.reader.specs.Answer.{opening, groupScan, groupRows, readCall}
-use Rattle.reader.proofs.Faults.{Kept, kept, unknown-fault, part-kept, stays}
+use Rattle.reader.proofs.Faults.{kept, unknown-fault, part-kept, stays}
 use Rattle.reader.proofs.Scans.{went-on}
-use Rattle.reader.proofs.Accepted.{Passed, accepted, begins}
+use Rattle.reader.proofs.Accepted.{accepted, begins}
 use Rattle.trip.proofs.RowLaws.{Smalls}
 
 kind-small : (m : Meaning) → rowKind m < 256 ^ 4

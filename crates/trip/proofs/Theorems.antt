@@ -1,21 +1,23 @@
 -- The theorems of this crate: the way of a run through C's slices, written and read.
 -- Assumes nothing.
 use Prim.Native.Nat.{ℕ}
-use mathlib.Core.List.{List, []}
-use mathlib.Core.Path.{_≡_, sym, ap, subst}
+use mathlib.Core.List.{List}
+use mathlib.Core.Path.{_≡_, sym, ap, _∙_, subst}
 use lib.ListN.{length}
 use Rattle.reader.specs.declared.Reader.{Reader}
 use Rattle.writer.specs.Laying.{desk}
 use Rattle.layout.specs.Layout.{Image}
+use Rattle.layout.specs.Reading.{itemsRead, begunRead}
 use Rattle.layout.specs.Stated.{EndsWith}
 use Rattle.layout.specs.Writing.{Account}
 use Rattle.layout.proofs.Theorems.{returned}
 use Rattle.dds.specs.Slices.{readerLength, answerLength, writerOf}
-use Rattle.dds.specs.Calls.{Outcome}
+use Rattle.dds.specs.Calls.{Outcome, ddsReaderStart}
 use Rattle.trip.specs.ThroughC.{Loan, LentC, WroteC, AcceptsC}
 use Rattle.trip.specs.Stated.{Written, GivesBackC}
 use Rattle.trip.proofs.Writing.{written-through}
 use Rattle.trip.proofs.Reading.{slice, numbersLent, enough-lent, held-slice, starts-through, sound-fresh, accepted-through, sound-end}
+use Rattle.trip.proofs.Settled.{start-lent, lent-enough, same-reading}
 
 module _ (size first : ℕ) (state group : List ℕ) (run : List Image) (closed now : Account) (x : WroteC size first state group run closed now) where
   -- What was written from C is what the writer's own calls wrote, on the state that the state slice holds; and the slice is the
@@ -43,3 +45,13 @@ module _ (size first : ℕ) (state group : List ℕ) (run : List Image) (closed 
         begun = y .begun;
         ends = subst (λ (r : Reader). EndsWith (closed .begun) r) (sym (held-slice (a .final) (sound-end (a .accepts) h))) (a .ends);
       }
+
+  -- Whatever slices C lends, and whatever stands in them: a reading of those groups in which every call returned 0 gives back the
+  -- account at the last close.
+  pub c-read-back : (old answer : List ℕ) (loans : List Loan) (rows : List (List ℕ)) (final : List ℕ) → ddsReaderStart size first old answer .number ≡ 0 →
+      AcceptsC (ddsReaderStart size first old answer .state) run loans rows final → (itemsRead run rows ≡ closed .finished) × (begunRead run rows ≡ closed .begun)
+  c-read-back old answer loans rows final e a =
+      let long = start-lent size first old answer e in
+      let y = c-returned old answer loans (long .0) (long .1) (lent-enough a) in
+      let same = same-reading a (y .accepts) .0 in
+      (ap (λ (r : List (List ℕ)). itemsRead run r) same ∙ y .items, ap (λ (r : List (List ℕ)). begunRead run r) same ∙ y .begun)

@@ -19,7 +19,7 @@ use Rattle.writer.specs.declared.WriterStart.the-variants as start
 use Rattle.writer.specs.declared.WriteAnswer.{WriteAnswer}
 use Rattle.writer.specs.declared.WriteAnswer.the-variants.{Finished, Closed, Refused}
 use Rattle.writer.specs.Laying.{Desk, desk, layEntry, layData, layPart, moved, warnState, payOwed, ready}
-use Rattle.writer.specs.Calls.{Done, done, finished, closed, orRefused, freshState, writerStartCall, recordFree, recordAccepted, recordCall, separatorAccepted, separatorCall, endAccepted, endCall, Call, call}
+use Rattle.writer.specs.Calls.{Done, done, finished, closed, orRefused, freshState, writerStartCall, recordAccepted, recordCall, separatorAccepted, separatorCall, endAccepted, endCall, Call, call}
 use Rattle.writer.specs.Calls.Call.{aRecord, aSeparator, anEnd}
 use Rattle.writer.proofs.SoundLaws.{Sound}
 use Rattle.writer.proofs.Accepted.{Offered, fits, record-accepted, separator-accepted, end-accepted}

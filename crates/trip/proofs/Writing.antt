@@ -1,7 +1,7 @@
 -- Each call of a writing through its slices is the writer's own call on the state that the state slice holds.
 -- Assumes nothing.
 use mathlib.Core.Path.{_≡_, refl, sym, ap, _∙_, subst}
-use mathlib.Core.Bool.{Bool, true, false, cond, _&&_}
+use mathlib.Core.Bool.{Bool, true, false, cond}
 use mathlib.Core.List.{List, [], _∷_, _++_}
 use Prim.Native.Nat.{ℕ, _^_, _<_}
 use native.Mathlib.Omega.{arith}
@@ -24,8 +24,8 @@ use Rattle.writer.specs.Calls.Call.{aRecord, aSeparator, anEnd}
 use Rattle.writer.proofs.Theorems.{refusal-told, refused-stays, sound-after, sound-start}
 use Rattle.layout.specs.Layout.{Image}
 use Rattle.layout.specs.Writing.{Account, noted, AsAsked, imageOf, Wrote}
-use Rattle.dds.specs.Slices.{writerLength, answerLength, lengthsKept, field, phaseNumber, phaseMeant, b4Number, b4Meant, writerOf, writerNumbers, writerMeant}
-use Rattle.dds.specs.Calls.{Outcome, outcome, answered, ofLengths, ofMeaning, writerStarted, ddsWriterStart, writeState, written, writing, ddsRecord, ddsSeparator, ddsEnd}
+use Rattle.dds.specs.Slices.{writerLength, answerLength, lengthsKept, phaseNumber, phaseMeant, b4Number, b4Meant, writerOf, writerNumbers, writerMeant}
+use Rattle.dds.specs.Calls.{Outcome, outcome, answered, ofLengths, ofMeaning, writerStarted, ddsWriterStart, written, writing, ddsRecord, ddsSeparator, ddsEnd}
 use Rattle.dds.proofs.SliceLaws.{field-of-bytes}
 use Rattle.dds.proofs.States.{writer-of-bytes, sound-writer-fits}
 use Rattle.trip.specs.ThroughC.{callC, phaseSeen, outcomeSeen, numberSeen, entriesSeen, finishedSeen, closedSeen, WroteC}

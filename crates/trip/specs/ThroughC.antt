@@ -52,8 +52,9 @@ abbrev pub closedSeen : Outcome → WriteAnswer
 closedSeen o = Closed (writerOf (o .state)) (numberSeen o) (entriesSeen o) (takenSeen o)
 
 -- A writing from C: the state slice and the group as they are now, the run closed so far, the account at the last close, and
--- the account now. Every slice lent may be any slice: one of another length than its own is refused. A call that returned a
--- number other than 0 leaves the account as it was. After a close the next call may come with any buffer of the right length.
+-- the account now. The state slice at the start and every answer slice may be any: one of another length than its own is
+-- refused. A call that returned a number other than 0 leaves the account as it was. After a close the next call may come with
+-- any buffer of the right length.
 pub data WroteC (size first : ℕ) : List ℕ → List ℕ → List Image → Account → Account → Type 0 where
   begins : {o : Outcome} (state answer group : List ℕ) → ddsWriterStart size first state answer ≡ o → o .number ≡ 0 → length group ≡ size →
       WroteC size first (o .state) group [] blank blank
