@@ -3,3 +3,4 @@ pub mod SliceLaws
 pub mod Outcomes
 pub mod States
 pub mod Settled
+pub mod Through
