@@ -26,9 +26,9 @@ use Rattle.writer.specs.Laying.{Desk, desk, ready}
 use Rattle.writer.specs.Calls as writer
 use Rattle.writer.proofs.CallLaws.{RecordedFree, entire, start, nothing, recorded-free, RecordedInside, part, total, owed, recorded-inside, SeparatorLaid, laid, not-laid, separator-laid, EndLaid, ends-nothing, ends-group, end-laid}
 use Rattle.dds.specs.Slices.{readerLength, writerLength, answerLength, lengthsKept, phaseNumber, phaseMeant, b4Number, b4Set, b4Meant, readerOf, readerNumbers, readerBytes, readerMeant, writerOf, writerNumbers, writerBytes, writerMeant}
-use Rattle.dds.specs.Calls.{Outcome, answered, ofSlices, readState, writeState, written, writing, readerStarted, writerStarted, ddsReaderStart, ddsRead, ddsWriterStart, ddsRecord, ddsSeparator, ddsEnd}
+use Rattle.dds.specs.Calls.{Effect, telling, ofSlices, readState, writeState, written, writing, readerStarted, writerStarted, ddsReaderStart, ddsRead, ddsWriterStart, ddsRecord, ddsSeparator, ddsEnd}
 use Rattle.dds.proofs.SliceLaws.{field-of-bytes, b4-of-number}
-use Rattle.dds.proofs.Outcomes.{length-passed, meaning-passed}
+use Rattle.dds.proofs.Effects.{length-passed, meaning-passed}
 use Rattle.dds.proofs.States.{ReaderFits, WriterFits, phase-small, b4-small, reader-of-bytes, writer-of-bytes}
 
 phase-meant : (p : Phase) → phaseMeant (phaseNumber p) ≡ true
@@ -57,13 +57,13 @@ writer-meant s =
 -- A start.
 pub reader-start-through : (size first : ℕ) (state answer : List ℕ) → length state ≡ readerLength → length answer ≡ answerLength
     → ddsReaderStart size first state answer
-    ≡ answered (reader.startTold (reader.readerStartCall size first)) (readerStarted (reader.readerStartCall size first) state) []
+    ≡ telling (reader.startTold (reader.readerStartCall size first)) (readerStarted (reader.readerStartCall size first) state) []
 unfolding ddsReaderStart lengthsKept
 reader-start-through size first state answer e f = sym (length-passed state [] answer _ (and (eq-eqb _ _ e) (eq-eqb _ _ f)))
 
 pub writer-start-through : (size first : ℕ) (state answer : List ℕ) → length state ≡ writerLength → length answer ≡ answerLength
     → ddsWriterStart size first state answer
-    ≡ answered (writer.startTold (writer.writerStartCall size first)) (writerStarted (writer.writerStartCall size first) state) []
+    ≡ telling (writer.startTold (writer.writerStartCall size first)) (writerStarted (writer.writerStartCall size first) state) []
 unfolding ddsWriterStart lengthsKept
 writer-start-through size first state answer e f = sym (length-passed state [] answer _ (and (eq-eqb _ _ e) (eq-eqb _ _ f)))
 
@@ -83,8 +83,8 @@ unfolding reader.readCall
 read-state s group number n room = read-left-by s (eqb (reader.readRefusal s (length group) number n room) 0) (reader.groupScan s group n) (reader.readRefusal s (length group) number n room)
 
 -- A read's answer, the state that it leaves and its rows, each in its slice.
-abbrev pub readStored : ReadAnswer → List ℕ → Outcome
-readStored a rows = answered (reader.told a) (readerBytes (reader.stateOf a)) rows
+abbrev pub readStored : ReadAnswer → List ℕ → Effect
+readStored a rows = telling (reader.told a) (readerBytes (reader.stateOf a)) rows
 
 pub read-through : (s : Reader) (group : List ℕ) (number n : ℕ) (rows answer : List ℕ) → ReaderFits s → length answer ≡ answerLength
     → ddsRead (readerBytes s) group number n rows answer
@@ -143,8 +143,8 @@ left-by true n w d p = new-left (w .state) (d .answer) p
 left-by false n w d p = refl
 
 -- A call's answer, the state and the group that it leaves, each in its slice.
-abbrev pub writeStored : writer.Done → Outcome
-writeStored d = answered (writer.told (d .answer)) (writerBytes (writer.stateOf (d .answer))) (d .group)
+abbrev pub writeStored : writer.Done → Effect
+writeStored d = telling (writer.told (d .answer)) (writerBytes (writer.stateOf (d .answer))) (d .group)
 
 stored-by : (n : ℕ) (w : Desk) (d : writer.Done) → New (d .answer) → written (writerBytes (w .state)) (writer.orRefused n w d) ≡ writeStored (writer.orRefused n w d)
 unfolding writer.orRefused

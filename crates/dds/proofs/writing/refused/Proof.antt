@@ -6,7 +6,7 @@ use lib.ListN.{length}
 use Rattle.group.proofs.Tests.{fails, holds}
 use Rattle.dds.specs.Slices.{writerLength, answerLength, lengthsKept}
 use Rattle.dds.specs.Calls.{refusal, ofSlices}
-use Rattle.dds.proofs.Outcomes.{lengths, length-refused, length-passed, meaning-refused, meaning-passed, stored}
+use Rattle.dds.proofs.Effects.{lengths, length-refused, length-passed, meaning-refused, meaning-passed, stored}
 use Rattle.dds.proofs.writing.refused.Statement.{statement}
 use Rattle.dds.proofs.writing.refused.Tie as tie
 
