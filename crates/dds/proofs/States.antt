@@ -1,22 +1,22 @@
 -- A state that was encoded decodes to itself, and a slice whose numbers have a meaning is what its state encodes to.
 -- Assumes nothing.
-use mathlib.Core.Path.{_≡_, refl, sym, ap, _∙_}
+use mathlib.Core.Path.{_≡_, refl}
 use mathlib.Core.Bool.{Bool, true, false}
 use mathlib.Core.List.{List}
-use Prim.Native.Nat.{ℕ, _+_, _*_, _^_, _≤_, _<_}
+use Prim.Native.Nat.{ℕ, _^_, _≤_, _<_}
 use native.Mathlib.Omega.{arith}
 use lib.ListN.{length}
 use Rattle.group.specs.declared.Phase.{Phase}
 use Rattle.group.specs.declared.Phase.the-variants.{Free, Inside, Owed}
 use Rattle.group.specs.Numbers.{Bytes}
 use Rattle.group.proofs.Tests.{both}
-use Rattle.group.proofs.StateLaws.{Run, run-of-sound, sum-small}
+use Rattle.group.proofs.StateLaws.{run-of-sound, sum-small}
 use Rattle.reader.specs.declared.Reader.{Reader}
 use Rattle.reader.specs.Answer as reader
 use Rattle.writer.specs.declared.Writer.{Writer}
 use Rattle.writer.specs.State.{isFree, isInside, writerSound}
 use Rattle.writer.proofs.SoundLaws.{Sound, sound}
-use Rattle.dds.specs.Slices.{readerLength, writerLength, field, phaseNumber, phaseOf, phaseMeant, b4Number, b4Set, b4Meant, readerOf, readerNumbers, readerBytes, readerMeant, writerOf, writerNumbers, writerBytes, writerMeant}
+use Rattle.dds.specs.Slices.{readerLength, writerLength, field, phaseNumber, phaseMeant, b4Number, b4Meant, readerOf, readerNumbers, readerBytes, readerMeant, writerOf, writerNumbers, writerBytes, writerMeant}
 use Rattle.dds.proofs.SliceLaws.{field-of-bytes, bytes-of-all, phase-of-number, number-of-phase, b4-of-number, number-of-b4}
 
 -- Numbers of a state that have room in four bytes.

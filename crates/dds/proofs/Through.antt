@@ -1,7 +1,7 @@
 -- Through the slices a call is the call itself: on a state that was encoded, each of the six answers, stores and leaves what the
 -- reader's or the writer's own call does. So a run through byte states is the run of the states that they hold.
 -- Assumes nothing.
-use mathlib.Core.Path.{_≡_, refl, sym, ap, _∙_}
+use mathlib.Core.Path.{_≡_, refl, sym, _∙_}
 use mathlib.Core.Bool.{Bool, true, false, cond}
 use mathlib.Core.List.{List, []}
 use Prim.Native.Nat.{ℕ, _*_, _/_}
@@ -25,7 +25,7 @@ use Rattle.writer.specs.declared.WriteAnswer.the-variants as write
 use Rattle.writer.specs.Laying.{Desk, desk, ready}
 use Rattle.writer.specs.Calls as writer
 use Rattle.writer.proofs.CallLaws.{RecordedFree, entire, start, nothing, recorded-free, RecordedInside, part, total, owed, recorded-inside, SeparatorLaid, laid, not-laid, separator-laid, EndLaid, ends-nothing, ends-group, end-laid}
-use Rattle.dds.specs.Slices.{readerLength, writerLength, answerLength, lengthsKept, phaseNumber, phaseMeant, b4Number, b4Set, b4Meant, readerOf, readerNumbers, readerBytes, readerMeant, writerOf, writerNumbers, writerBytes, writerMeant}
+use Rattle.dds.specs.Slices.{readerLength, writerLength, answerLength, lengthsKept, phaseNumber, phaseMeant, b4Number, b4Meant, readerNumbers, readerBytes, readerMeant, writerNumbers, writerBytes, writerMeant}
 use Rattle.dds.specs.Calls.{Effect, telling, ofSlices, readState, writeState, written, writing, readerStarted, writerStarted, ddsReaderStart, ddsRead, ddsWriterStart, ddsRecord, ddsSeparator, ddsEnd}
 use Rattle.dds.proofs.SliceLaws.{field-of-bytes, b4-of-number}
 use Rattle.dds.proofs.Effects.{length-passed, meaning-passed}
