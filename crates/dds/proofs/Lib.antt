@@ -1,6 +1,5 @@
 -- The laws that the proofs of this crate share, and those that the crates above cite.
 pub mod SliceLaws
-pub mod Effects
+pub mod Outcomes
 pub mod States
 pub mod Settled
-pub mod Through

@@ -1,34 +1,34 @@
--- For each of the six calls: two effects that meet its contract coincide. An effect is the returned number and every byte of
+-- For each of the six calls: two outcomes that meet its contract coincide. An outcome is the returned number and every byte of
 -- every slice that the call may write.
 -- Assumes nothing.
 use mathlib.Core.Path.{_≡_, sym, _∙_}
 use mathlib.Core.List.{List}
 use Prim.Native.Nat.{ℕ}
-use Rattle.dds.specs.Calls.{Effect, ddsReaderStart, ddsRead, ddsWriterStart, ddsRecord, ddsSeparator, ddsEnd}
+use Rattle.dds.specs.Calls.{Outcome, ddsReaderStart, ddsRead, ddsWriterStart, ddsRecord, ddsSeparator, ddsEnd}
 
-same : {x a b : Effect} → a ≡ x → b ≡ x → a ≡ b
+same : {x a b : Outcome} → a ≡ x → b ≡ x → a ≡ b
 same e f = e ∙ sym f
 
-pub reader-start-settled : (size first : ℕ) (state answer : List ℕ) {a b : Effect}
+pub reader-start-settled : (size first : ℕ) (state answer : List ℕ) {a b : Outcome}
     → a ≡ ddsReaderStart size first state answer → b ≡ ddsReaderStart size first state answer → a ≡ b
 reader-start-settled size first state answer e f = same e f
 
-pub read-settled : (state group : List ℕ) (number n : ℕ) (rows answer : List ℕ) {a b : Effect}
+pub read-settled : (state group : List ℕ) (number n : ℕ) (rows answer : List ℕ) {a b : Outcome}
     → a ≡ ddsRead state group number n rows answer → b ≡ ddsRead state group number n rows answer → a ≡ b
 read-settled state group number n rows answer e f = same e f
 
-pub writer-start-settled : (size first : ℕ) (state answer : List ℕ) {a b : Effect}
+pub writer-start-settled : (size first : ℕ) (state answer : List ℕ) {a b : Outcome}
     → a ≡ ddsWriterStart size first state answer → b ≡ ddsWriterStart size first state answer → a ≡ b
 writer-start-settled size first state answer e f = same e f
 
-pub record-settled : (state group bytes : List ℕ) (warn : ℕ) (answer : List ℕ) {a b : Effect}
+pub record-settled : (state group bytes : List ℕ) (warn : ℕ) (answer : List ℕ) {a b : Outcome}
     → a ≡ ddsRecord state group bytes warn answer → b ≡ ddsRecord state group bytes warn answer → a ≡ b
 record-settled state group bytes warn answer e f = same e f
 
-pub separator-settled : (state group : List ℕ) (value warn : ℕ) (answer : List ℕ) {a b : Effect}
+pub separator-settled : (state group : List ℕ) (value warn : ℕ) (answer : List ℕ) {a b : Outcome}
     → a ≡ ddsSeparator state group value warn answer → b ≡ ddsSeparator state group value warn answer → a ≡ b
 separator-settled state group value warn answer e f = same e f
 
-pub end-settled : (state group : List ℕ) (warn : ℕ) (answer : List ℕ) {a b : Effect}
+pub end-settled : (state group : List ℕ) (warn : ℕ) (answer : List ℕ) {a b : Outcome}
     → a ≡ ddsEnd state group warn answer → b ≡ ddsEnd state group warn answer → a ≡ b
 end-settled state group warn answer e f = same e f

@@ -33,12 +33,12 @@ pub record WriterFits (s : Writer) : Type 0 where
   pub filled : s .filled < 256 ^ 4
   pub entries : s .entries < 256 ^ 4
 
-pub phase-small : (p : Phase) → phaseNumber p < 256 ^ 4
+phase-small : (p : Phase) → phaseNumber p < 256 ^ 4
 phase-small Free = omega arith
 phase-small Inside = omega arith
 phase-small Owed = omega arith
 
-pub b4-small : (b : Bool) → b4Number b < 256 ^ 4
+b4-small : (b : Bool) → b4Number b < 256 ^ 4
 b4-small false = omega arith
 b4-small true = omega arith
 

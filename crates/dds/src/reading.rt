@@ -5,7 +5,7 @@ ghost use Prim.Native.Nat.{ℕ};
 ghost use lib.ListN.{length};
 ghost use Rattle.reader.specs.Answer.{told};
 ghost use Rattle.dds.specs.Slices.{readerLength, answerLength};
-ghost use Rattle.dds.specs.Calls.{effect, telling, readState, ddsReaderStart, ddsRead};
+ghost use Rattle.dds.specs.Calls.{outcome, answered, readState, ddsReaderStart, ddsRead};
 use crate::slices;
 use reader::ReadAnswer;
 use reader::Reader;
@@ -18,7 +18,7 @@ pub extern "C" fn dds_reader_start(
     state: &mut [u8],
     answer: &mut [u8],
 ) -> u32
-    ensures { λ r. ⌜ effect r (now (state .exit)) [] (now (answer .exit)) ≡ ddsReaderStart size first (now (state .entry)) (now (answer .entry)) ⌝ }
+    ensures { λ r. ⌜ outcome r (now (state .exit)) [] (now (answer .exit)) ≡ ddsReaderStart size first (now (state .entry)) (now (answer .entry)) ⌝ }
 {
     if !slices::lengths_kept(state.len(), slices::READER_LENGTH, answer.len()) {
         return 1;
@@ -36,7 +36,7 @@ pub extern "C" fn dds_reader_start(
 // What a read leaves in the state and the answer, and what it returns.
 fn finish(state: &mut [u8], answer: &mut [u8], done: ReadAnswer) -> u32
     requires { ⌜ (length (now state) ≡ readerLength) × (length (now answer) ≡ answerLength) ⌝ }
-    ensures { λ r. ⌜ ((lent : List ℕ) → effect r (now (state .exit)) lent (now (answer .exit)) ≡ telling (told done) (readState done (now (state .entry))) lent) ⌝ }
+    ensures { λ r. ⌜ ((lent : List ℕ) → outcome r (now (state .exit)) lent (now (answer .exit)) ≡ answered (told done) (readState done (now (state .entry))) lent) ⌝ }
 {
     match done {
         ReadAnswer::Accepted(reader) => {
@@ -60,7 +60,7 @@ pub extern "C" fn dds_read(
     rows: &mut [u8],
     answer: &mut [u8],
 ) -> u32
-    ensures { λ r. ⌜ effect r (now (state .exit)) (now (rows .exit)) (now (answer .exit)) ≡ ddsRead (now (state .entry)) (now (group .entry)) number entries (now (rows .entry)) (now (answer .entry)) ⌝ }
+    ensures { λ r. ⌜ outcome r (now (state .exit)) (now (rows .exit)) (now (answer .exit)) ≡ ddsRead (now (state .entry)) (now (group .entry)) number entries (now (rows .entry)) (now (answer .entry)) ⌝ }
 {
     if !slices::lengths_kept(state.len(), slices::READER_LENGTH, answer.len()) {
         return 1;

@@ -6,7 +6,7 @@ ghost use Prim.Native.Nat.{ℕ};
 ghost use lib.ListN.{length};
 ghost use Rattle.writer.specs.Calls.{told};
 ghost use Rattle.dds.specs.Slices.{writerLength, answerLength};
-ghost use Rattle.dds.specs.Calls.{Effect, effect, telling, ofSlices, writeState};
+ghost use Rattle.dds.specs.Calls.{Outcome, outcome, answered, ofSlices, writeState};
 ghost use Rattle.dds.specs.Calls.{ddsWriterStart, ddsRecord, ddsSeparator, ddsEnd};
 use crate::slices;
 use writer::WriteAnswer;
@@ -20,7 +20,7 @@ pub extern "C" fn dds_writer_start(
     state: &mut [u8],
     answer: &mut [u8],
 ) -> u32
-    ensures { λ r. ⌜ effect r (now (state .exit)) [] (now (answer .exit)) ≡ ddsWriterStart size first (now (state .entry)) (now (answer .entry)) ⌝ }
+    ensures { λ r. ⌜ outcome r (now (state .exit)) [] (now (answer .exit)) ≡ ddsWriterStart size first (now (state .entry)) (now (answer .entry)) ⌝ }
 {
     if !slices::lengths_kept(state.len(), slices::WRITER_LENGTH, answer.len()) {
         return 1;
@@ -38,7 +38,7 @@ pub extern "C" fn dds_writer_start(
 // What a call leaves in the state and the answer, and what it returns.
 fn finish(state: &mut [u8], answer: &mut [u8], done: WriteAnswer) -> u32
     requires { ⌜ (length (now state) ≡ writerLength) × (length (now answer) ≡ answerLength) ⌝ }
-    ensures { λ r. ⌜ ((lent : List ℕ) → effect r (now (state .exit)) lent (now (answer .exit)) ≡ telling (told done) (writeState done (now (state .entry))) lent) ⌝ }
+    ensures { λ r. ⌜ ((lent : List ℕ) → outcome r (now (state .exit)) lent (now (answer .exit)) ≡ answered (told done) (writeState done (now (state .entry))) lent) ⌝ }
 {
     match done {
         WriteAnswer::Finished(writer) => {
@@ -62,7 +62,7 @@ fn finish(state: &mut [u8], answer: &mut [u8], done: WriteAnswer) -> u32
 
 // Whether the slices refuse a call: by a length, with nothing written, or by a number that has no meaning, with the answer.
 fn refused(state: &[u8], warn: u32, answer: &mut [u8]) -> bool
-    ensures { λ r. ⌜ ((group : List ℕ) (done : Effect) → cond r (effect 1 (now (state .entry)) group (now (answer .exit))) done ≡ ofSlices (now (state .entry)) group warn (now (answer .entry)) done) ⌝ }
+    ensures { λ r. ⌜ ((group : List ℕ) (done : Outcome) → cond r (outcome 1 (now (state .entry)) group (now (answer .exit))) done ≡ ofSlices (now (state .entry)) group warn (now (answer .entry)) done) ⌝ }
     ensures { λ r. ⌜ (r ≡ false → (length (now (state .entry)) ≡ writerLength) × (length (now (answer .exit)) ≡ answerLength)) ⌝ }
 {
     if !slices::lengths_kept(state.len(), slices::WRITER_LENGTH, answer.len()) {
@@ -83,7 +83,7 @@ pub extern "C" fn dds_record(
     warn: u32,
     answer: &mut [u8],
 ) -> u32
-    ensures { λ r. ⌜ effect r (now (state .exit)) (now (group .exit)) (now (answer .exit)) ≡ ddsRecord (now (state .entry)) (now (group .entry)) (now («data» .entry)) warn (now (answer .entry)) ⌝ }
+    ensures { λ r. ⌜ outcome r (now (state .exit)) (now (group .exit)) (now (answer .exit)) ≡ ddsRecord (now (state .entry)) (now (group .entry)) (now («data» .entry)) warn (now (answer .entry)) ⌝ }
 {
     if refused(state, warn, answer) {
         return 1;
@@ -102,7 +102,7 @@ pub extern "C" fn dds_separator(
     warn: u32,
     answer: &mut [u8],
 ) -> u32
-    ensures { λ r. ⌜ effect r (now (state .exit)) (now (group .exit)) (now (answer .exit)) ≡ ddsSeparator (now (state .entry)) (now (group .entry)) value warn (now (answer .entry)) ⌝ }
+    ensures { λ r. ⌜ outcome r (now (state .exit)) (now (group .exit)) (now (answer .exit)) ≡ ddsSeparator (now (state .entry)) (now (group .entry)) value warn (now (answer .entry)) ⌝ }
 {
     if refused(state, warn, answer) {
         return 1;
@@ -115,7 +115,7 @@ pub extern "C" fn dds_separator(
 
 #[no_mangle]
 pub extern "C" fn dds_end(state: &mut [u8], group: &mut [u8], warn: u32, answer: &mut [u8]) -> u32
-    ensures { λ r. ⌜ effect r (now (state .exit)) (now (group .exit)) (now (answer .exit)) ≡ ddsEnd (now (state .entry)) (now (group .entry)) warn (now (answer .entry)) ⌝ }
+    ensures { λ r. ⌜ outcome r (now (state .exit)) (now (group .exit)) (now (answer .exit)) ≡ ddsEnd (now (state .entry)) (now (group .entry)) warn (now (answer .entry)) ⌝ }
 {
     if refused(state, warn, answer) {
         return 1;

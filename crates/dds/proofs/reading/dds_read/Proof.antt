@@ -7,7 +7,7 @@ use native.Mathlib.Omega.{arith}
 use Rattle.group.proofs.Tests.{fails, holds}
 use Rattle.dds.specs.Slices.{readerLength, answerLength, lengthsKept}
 use Rattle.dds.specs.Calls.{refusal, ddsRead}
-use Rattle.dds.proofs.Effects.{lengths, length-refused, length-passed, meaning-refused, meaning-passed, stored, read-left}
+use Rattle.dds.proofs.Outcomes.{lengths, length-refused, length-passed, meaning-refused, meaning-passed, stored, read-left}
 use Rattle.dds.proofs.reading.dds_read.Statement.{statement}
 use Rattle.dds.proofs.reading.dds_read.Tie as tie
 

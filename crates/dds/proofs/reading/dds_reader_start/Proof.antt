@@ -7,7 +7,7 @@ use lib.ListN.{length}
 use Rattle.group.proofs.Tests.{fails, holds}
 use Rattle.dds.specs.Slices.{readerLength, answerLength, lengthsKept}
 use Rattle.dds.specs.Calls.{ddsReaderStart}
-use Rattle.dds.proofs.Effects.{lengths, length-refused, length-passed, stored}
+use Rattle.dds.proofs.Outcomes.{lengths, length-refused, length-passed, stored}
 use Rattle.dds.proofs.reading.dds_reader_start.Statement.{statement}
 use Rattle.dds.proofs.reading.dds_reader_start.Tie as tie
 

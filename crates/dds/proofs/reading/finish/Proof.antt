@@ -1,7 +1,7 @@
 -- `finish` meets its contract, answer by answer. Assumes nothing.
 use borrow.Author.Needs.{needs}
 use mathlib.Core.Path.{refl}
-use Rattle.dds.proofs.Effects.{stored}
+use Rattle.dds.proofs.Outcomes.{stored}
 use Rattle.dds.proofs.reading.finish.Statement.{statement}
 use Rattle.dds.proofs.reading.finish.Tie as tie
 

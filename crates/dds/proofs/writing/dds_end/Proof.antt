@@ -6,7 +6,7 @@ use native.Mathlib.Omega.{arith}
 use Rattle.writer.specs.Calls.{endCall}
 use Rattle.dds.specs.Slices.{writerLength, answerLength, b4Set}
 use Rattle.dds.specs.Calls.{writing, ddsEnd}
-use Rattle.dds.proofs.Effects.{stopped, went-on, write-left}
+use Rattle.dds.proofs.Outcomes.{stopped, went-on, write-left}
 use Rattle.dds.proofs.writing.dds_end.Statement.{statement}
 use Rattle.dds.proofs.writing.dds_end.Tie as tie
 

@@ -8,7 +8,7 @@ use Rattle.group.proofs.Tests.{fails, holds}
 use Rattle.writer.specs.Calls.{startTold}
 use Rattle.dds.specs.Slices.{writerLength, answerLength, lengthsKept}
 use Rattle.dds.specs.Calls.{ddsWriterStart}
-use Rattle.dds.proofs.Effects.{lengths, length-refused, length-passed, stored}
+use Rattle.dds.proofs.Outcomes.{lengths, length-refused, length-passed, stored}
 use Rattle.dds.proofs.writing.dds_writer_start.Statement.{statement}
 use Rattle.dds.proofs.writing.dds_writer_start.Tie as tie
 

@@ -2,7 +2,7 @@
 use borrow.Author.Needs.{needs}
 use mathlib.Core.Path.{refl}
 use Rattle.writer.specs.Calls.{told}
-use Rattle.dds.proofs.Effects.{stored}
+use Rattle.dds.proofs.Outcomes.{stored}
 use Rattle.dds.proofs.writing.finish.Statement.{statement}
 use Rattle.dds.proofs.writing.finish.Tie as tie
 

@@ -5,8 +5,8 @@ use mathlib.Core.Bool.{true, true≢false}
 use lib.ListN.{length}
 use Rattle.group.proofs.Tests.{fails, holds}
 use Rattle.dds.specs.Slices.{writerLength, answerLength, lengthsKept}
-use Rattle.dds.specs.Calls.{refusal, ofSlices}
-use Rattle.dds.proofs.Effects.{lengths, length-refused, length-passed, meaning-refused, meaning-passed, stored}
+use Rattle.dds.specs.Calls.{refusal}
+use Rattle.dds.proofs.Outcomes.{lengths, length-refused, length-passed, meaning-refused, meaning-passed, stored}
 use Rattle.dds.proofs.writing.refused.Statement.{statement}
 use Rattle.dds.proofs.writing.refused.Tie as tie
 
@@ -18,17 +18,14 @@ long : (c : tie.Else1) → (length (c .before .before .before .before .args .sta
 long c = lengths _ _ _ (kept c)
 
 by-length : tie.Need-returns
-unfolding ofSlices
 by-length c = (λ group done. length-refused _ group _ _ (fails (c .before .lengths-kept .ensures) (c .if1 .taken)), λ e. absurd (true≢false e))
 
 by-meaning : tie.Need-returns-2
-unfolding ofSlices
 by-meaning c =
     let p = c .before .before .put-answer .ensures in
     (λ group done. stored (refusal 1) group refl refl (p .1) ∙ meaning-refused _ group done (fails (c .before .before .before .before .before .writer-meant .ensures) (c .before .before .before .before .if2 .taken)) ∙ length-passed _ group _ _ (kept (c .before .before .before .before .before .before)), λ e. absurd (true≢false e))
 
 let-through : tie.Need-returns-3
-unfolding ofSlices
 let-through c = (λ group done. meaning-passed _ group done (holds (c .before .writer-meant .ensures) (c .if2 .left)) ∙ length-passed _ group _ _ (kept (c .before .before)), λ e. long (c .before .before))
 
 pub refused-spec : {M : Type 1} → statement M
