@@ -13,14 +13,11 @@ use Rattle.group.specs.declared.Phase.{Phase}
 use Rattle.group.specs.declared.Phase.the-variants.{Free, Inside, Owed}
 use Rattle.group.specs.Store.{put}
 use Rattle.group.specs.Numbers.{numberAt, bytesOf, Bytes}
-use Rattle.group.proofs.Tests.{both}
 use Rattle.group.proofs.Stores.{put-none, put-split, put-put}
 use Rattle.group.proofs.NumberLaws.{length-bytes, number-after, number-of-bytes, bytes-of-number}
-use Rattle.reader.specs.declared.Reader.{Reader}
 use Rattle.reader.specs.Answer.{inBytes}
 use Rattle.reader.proofs.RowBytes.{length-in-bytes}
-use Rattle.writer.specs.declared.Writer.{Writer}
-use Rattle.dds.specs.Slices.{field, phaseNumber, phaseOf, phaseMeant, b4Number, b4Set, b4Meant, readerOf, readerNumbers, readerMeant, writerOf, writerNumbers, writerMeant}
+use Rattle.dds.specs.Slices.{field, phaseNumber, phaseOf, phaseMeant, b4Number, b4Set, b4Meant}
 
 -- Numbers stored one after another.
 abbrev pub puts : List ℕ → ℕ → List ℕ → List ℕ

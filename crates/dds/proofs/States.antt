@@ -1,22 +1,22 @@
 -- A state that was encoded decodes to itself, and a slice whose numbers have a meaning is what its state encodes to.
 -- Assumes nothing.
-use mathlib.Core.Path.{_≡_, refl, sym, ap, _∙_}
+use mathlib.Core.Path.{_≡_, refl}
 use mathlib.Core.Bool.{Bool, true, false}
 use mathlib.Core.List.{List}
-use Prim.Native.Nat.{ℕ, _+_, _*_, _^_, _≤_, _<_}
+use Prim.Native.Nat.{ℕ, _^_, _≤_, _<_}
 use native.Mathlib.Omega.{arith}
 use lib.ListN.{length}
 use Rattle.group.specs.declared.Phase.{Phase}
 use Rattle.group.specs.declared.Phase.the-variants.{Free, Inside, Owed}
 use Rattle.group.specs.Numbers.{Bytes}
 use Rattle.group.proofs.Tests.{both}
-use Rattle.group.proofs.StateLaws.{Run, run-of-sound, sum-small}
+use Rattle.group.proofs.StateLaws.{run-of-sound, sum-small}
 use Rattle.reader.specs.declared.Reader.{Reader}
 use Rattle.reader.specs.Answer as reader
 use Rattle.writer.specs.declared.Writer.{Writer}
 use Rattle.writer.specs.State.{isFree, isInside, writerSound}
 use Rattle.writer.proofs.SoundLaws.{Sound, sound}
-use Rattle.dds.specs.Slices.{readerLength, writerLength, field, phaseNumber, phaseOf, phaseMeant, b4Number, b4Set, b4Meant, readerOf, readerNumbers, readerMeant, writerOf, writerNumbers, writerMeant}
+use Rattle.dds.specs.Slices.{readerLength, writerLength, field, phaseNumber, phaseMeant, b4Number, b4Meant, readerOf, readerNumbers, readerBytes, readerMeant, writerOf, writerNumbers, writerBytes, writerMeant}
 use Rattle.dds.proofs.SliceLaws.{field-of-bytes, bytes-of-all, phase-of-number, number-of-phase, b4-of-number, number-of-b4}
 
 -- Numbers of a state that have room in four bytes.
@@ -43,12 +43,12 @@ b4-small false = omega arith
 b4-small true = omega arith
 
 -- A state that was encoded decodes to itself.
-pub reader-of-bytes : (s : Reader) → ReaderFits s → readerOf (reader.inBytes (readerNumbers s)) ≡ s
+pub reader-of-bytes : (s : Reader) → ReaderFits s → readerOf (readerBytes s) ≡ s
 unfolding readerOf
 reader-of-bytes s h =
     rw (field-of-bytes (readerNumbers s) 0 (omega arith) (h .size), field-of-bytes (readerNumbers s) 1 (omega arith) (h .next), field-of-bytes (readerNumbers s) 2 (omega arith) (phase-small (s .phase)), field-of-bytes (readerNumbers s) 3 (omega arith) (h .sum), phase-of-number (s .phase))
 
-pub writer-of-bytes : (s : Writer) → WriterFits s → writerOf (reader.inBytes (writerNumbers s)) ≡ s
+pub writer-of-bytes : (s : Writer) → WriterFits s → writerOf (writerBytes s) ≡ s
 unfolding writerOf
 writer-of-bytes s h =
     rw (field-of-bytes (writerNumbers s) 0 (omega arith) (h .size), field-of-bytes (writerNumbers s) 1 (omega arith) (h .next), field-of-bytes (writerNumbers s) 2 (omega arith) (phase-small (s .phase)), field-of-bytes (writerNumbers s) 3 (omega arith) (h .sum), field-of-bytes (writerNumbers s) 4 (omega arith) (h .filled), field-of-bytes (writerNumbers s) 5 (omega arith) (h .entries), field-of-bytes (writerNumbers s) 6 (omega arith) (b4-small (s .warned)), field-of-bytes (writerNumbers s) 7 (omega arith) (h .rest), phase-of-number (s .phase), b4-of-number (s .warned))
@@ -83,12 +83,12 @@ sound-writer-fits s e =
 
 -- A slice of its length whose phase and b4 have a meaning is the bytes of the state that it holds: so of any sound one.
 pub bytes-of-reader : (slice : List ℕ) → Bytes slice → length slice ≡ readerLength → readerMeant slice ≡ true
-    → reader.inBytes (readerNumbers (readerOf slice)) ≡ slice
+    → readerBytes (readerOf slice) ≡ slice
 unfolding readerOf readerMeant
 bytes-of-reader slice b long e = rw (number-of-phase (field slice 2) e) (bytes-of-all slice 4 b long)
 
 pub bytes-of-writer : (slice : List ℕ) → Bytes slice → length slice ≡ writerLength → writerMeant slice ≡ true
-    → reader.inBytes (writerNumbers (writerOf slice)) ≡ slice
+    → writerBytes (writerOf slice) ≡ slice
 unfolding writerOf writerMeant
 bytes-of-writer slice b long e =
     let h = both (phaseMeant (field slice 2)) (b4Meant (field slice 6)) e in

@@ -16,7 +16,7 @@ use Rattle.writer.specs.declared.WriteAnswer.{WriteAnswer}
 use Rattle.writer.specs.declared.WriteAnswer.the-variants as write
 use Rattle.writer.specs.Laying.{Desk, desk}
 use Rattle.writer.specs.Calls as writer
-use Rattle.dds.specs.Slices.{readerLength, writerLength, lengthsKept, b4Set, b4Meant, readerOf, readerNumbers, writerOf, writerNumbers, readerMeant, writerMeant}
+use Rattle.dds.specs.Slices.{readerLength, writerLength, lengthsKept, b4Set, b4Meant, readerOf, readerBytes, readerMeant, writerOf, writerBytes, writerMeant}
 
 -- What a call returns, and what it leaves in the state slice, in the slice lent for its work (a read's rows, a writer's
 -- group, nothing at a start) and in the answer slice.
@@ -29,7 +29,7 @@ pub record Outcome : Type 0 where
 abbrev pub outcome : ℕ → List ℕ → List ℕ → List ℕ → Outcome
 outcome number state lent answer = record { number = number; state = state; lent = lent; answer = answer }
 
--- An answer's six numbers go into the answer slice. "Each call returns the number, 0 if accepted": the first of them.
+-- A call that tells these six numbers: all go into the answer slice. "Each call returns the number, 0 if accepted": the first.
 abbrev pub answered : List ℕ → List ℕ → List ℕ → Outcome
 answered told state lent = outcome (getD told 0 0) state lent (reader.inBytes told)
 
@@ -47,9 +47,10 @@ ofMeaning meant state lent done = cond meant done (answered (refusal 1) state le
 
 -- "a refused start gives no state": what stood in the slice stays, whatever it is.
 abbrev pub readerStarted : ReaderStart → List ℕ → List ℕ
-readerStarted (readerStart.Started s) old = reader.inBytes (readerNumbers s)
+readerStarted (readerStart.Started s) old = readerBytes s
 readerStarted (readerStart.Refused number) old = old
 
+-- "A reader starts with L and the first number": its state's bytes, or 2 or 3. What the slice held is never looked at.
 unfoldable pub ddsReaderStart : ℕ → ℕ → List ℕ → List ℕ → Outcome
 ddsReaderStart size first state answer =
     let a = reader.readerStartCall size first in
@@ -58,10 +59,10 @@ ddsReaderStart size first state answer =
 
 -- The state slice after a read: the new state's bytes, or, where it is refused, what stood there.
 abbrev pub readState : ReadAnswer → List ℕ → List ℕ
-readState (read.Accepted s) old = reader.inBytes (readerNumbers s)
+readState (read.Accepted s) old = readerBytes s
 readState (read.Refused s number place) old = old
 
--- "A row slice under 12n bytes is 7": a slice of bytes has room for a fourth as many row numbers.
+-- "One call reads one group." "A row slice under 12n bytes is 7": it has room for a fourth as many numbers as it has bytes.
 unfoldable pub ddsRead : List ℕ → List ℕ → ℕ → ℕ → List ℕ → List ℕ → Outcome
 ddsRead state group number n rows answer =
     let s = readerOf state in
@@ -70,10 +71,12 @@ ddsRead state group number n rows answer =
     (ofMeaning (readerMeant state) state rows
     (answered (reader.told a) (readState a state) (reader.rowsLeft a (reader.inBytes (reader.groupRows s group n)) rows)))
 
+-- The same of a writer.
 abbrev pub writerStarted : WriterStart → List ℕ → List ℕ
-writerStarted (writerStart.Started s) old = reader.inBytes (writerNumbers s)
+writerStarted (writerStart.Started s) old = writerBytes s
 writerStarted (writerStart.Refused number) old = old
 
+-- "A writer starts the same way."
 unfoldable pub ddsWriterStart : ℕ → ℕ → List ℕ → List ℕ → Outcome
 ddsWriterStart size first state answer =
     let a = writer.writerStartCall size first in
@@ -82,26 +85,33 @@ ddsWriterStart size first state answer =
 
 -- The state slice after a record, a separator or an end.
 abbrev pub writeState : WriteAnswer → List ℕ → List ℕ
-writeState (write.Finished s) old = reader.inBytes (writerNumbers s)
-writeState (write.Closed s number entries taken) old = reader.inBytes (writerNumbers s)
+writeState (write.Finished s) old = writerBytes s
+writeState (write.Closed s number entries taken) old = writerBytes s
 writeState (write.Refused s number) old = old
 
 -- What a writer's call leaves, by its answer and the group that it leaves.
 abbrev pub written : List ℕ → writer.Done → Outcome
 written state done = answered (writer.told (done .answer)) (writeState (done .answer) state) (done .group)
 
--- A record, a separator or an end through the slices. `warn` is a b4 number too, and is 1 where it has no meaning.
+-- What the slices of a record, a separator or an end refuse, before the call itself. `warn` is a b4 number too.
+abbrev pub ofSlices : List ℕ → List ℕ → ℕ → List ℕ → Outcome → Outcome
+ofSlices state group warn answer done =
+    ofLengths (lengthsKept (length state) writerLength (length answer)) state group answer
+    (ofMeaning (writerMeant state && b4Meant warn) state group done)
+
+-- A record, a separator or an end through the slices.
 unfoldable pub writing : (Bool → Desk → writer.Done) → List ℕ → List ℕ → ℕ → List ℕ → Outcome
 writing call state group warn answer =
-    ofLengths (lengthsKept (length state) writerLength (length answer)) state group answer
-    (ofMeaning (writerMeant state && b4Meant warn) state group
-    (written state (call (b4Set warn) (desk (writerOf state) group))))
+    ofSlices state group warn answer (written state (call (b4Set warn) (desk (writerOf state) group)))
 
+-- "Record of n bytes": the offered bytes are the data slice.
 unfoldable pub ddsRecord : List ℕ → List ℕ → List ℕ → ℕ → List ℕ → Outcome
 ddsRecord state group bytes warn answer = writing (writer.recordCall bytes) state group warn answer
 
+-- "Separator", by its value.
 unfoldable pub ddsSeparator : List ℕ → List ℕ → ℕ → ℕ → List ℕ → Outcome
 ddsSeparator state group value warn answer = writing (writer.separatorCall value) state group warn answer
 
+-- "End".
 unfoldable pub ddsEnd : List ℕ → List ℕ → ℕ → List ℕ → Outcome
 ddsEnd state group warn answer = writing writer.endCall state group warn answer

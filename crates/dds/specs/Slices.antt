@@ -9,6 +9,7 @@ use Rattle.group.specs.declared.Phase.{Phase}
 use Rattle.group.specs.declared.Phase.the-variants.{Free, Inside, Owed}
 use Rattle.group.specs.Numbers.{numberAt}
 use Rattle.reader.specs.declared.Reader.{Reader}
+use Rattle.reader.specs.Answer.{inBytes}
 use Rattle.writer.specs.declared.Writer.{Writer}
 
 -- A reader's state is four numbers, a writer's eight, an answer six.
@@ -59,6 +60,9 @@ readerOf slice = record { size = field slice 0; next = field slice 1; phase = ph
 abbrev pub readerNumbers : Reader → List ℕ
 readerNumbers s = s .size ∷ s .next ∷ phaseNumber (s .phase) ∷ s .sum ∷ []
 
+abbrev pub readerBytes : Reader → List ℕ
+readerBytes s = inBytes (readerNumbers s)
+
 -- A writer's state: the same four, then data bytes d, entries e, b4, rest.
 unfoldable pub writerOf : List ℕ → Writer
 writerOf slice =
@@ -76,6 +80,9 @@ writerOf slice =
 abbrev pub writerNumbers : Writer → List ℕ
 writerNumbers s =
     s .size ∷ s .next ∷ phaseNumber (s .phase) ∷ s .sum ∷ s .filled ∷ s .entries ∷ b4Number (s .warned) ∷ s .rest ∷ []
+
+abbrev pub writerBytes : Writer → List ℕ
+writerBytes s = inBytes (writerNumbers s)
 
 -- The numbers of a state slice that could have no meaning have one.
 unfoldable pub readerMeant : List ℕ → Bool

@@ -8,7 +8,7 @@ ghost use Rattle.group.specs.Store.{put};
 ghost use Rattle.group.specs.Numbers.{bytesOf};
 ghost use Rattle.reader.specs.Answer.{inBytes};
 ghost use Rattle.dds.specs.Slices.{readerLength, writerLength, answerLength, lengthsKept, phaseNumber, phaseOf, b4Number, b4Meant};
-ghost use Rattle.dds.specs.Slices.{readerOf, readerNumbers, readerMeant, writerOf, writerNumbers, writerMeant};
+ghost use Rattle.dds.specs.Slices.{readerOf, readerBytes, readerMeant, writerOf, writerBytes, writerMeant};
 use group::Phase;
 use group::numbers;
 use reader::Reader;
@@ -128,7 +128,7 @@ fn keep(slice: &mut [u8], at: usize, n: u32)
 // The state's four numbers, over all that stood in the slice.
 pub(crate) fn put_reader(slice: &mut [u8], r: Reader)
     requires { ⌜ length (now slice) ≡ readerLength ⌝ }
-    ensures { λ _. ⌜ now (slice .exit) ≡ inBytes (readerNumbers r) ⌝ }
+    ensures { λ _. ⌜ now (slice .exit) ≡ readerBytes r ⌝ }
 {
     let phase = r.phase;
     let phase = phase_number(phase);
@@ -141,7 +141,7 @@ pub(crate) fn put_reader(slice: &mut [u8], r: Reader)
 // The state's eight numbers, over all that stood in the slice.
 pub(crate) fn put_writer(slice: &mut [u8], w: Writer)
     requires { ⌜ length (now slice) ≡ writerLength ⌝ }
-    ensures { λ _. ⌜ now (slice .exit) ≡ inBytes (writerNumbers w) ⌝ }
+    ensures { λ _. ⌜ now (slice .exit) ≡ writerBytes w ⌝ }
 {
     let phase = w.phase;
     let phase = phase_number(phase);

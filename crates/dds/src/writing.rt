@@ -1,12 +1,12 @@
 // A writer from C: its start, a record, a separator and the end.
 ghost use mathlib.Core.Path.{_≡_};
-ghost use mathlib.Core.Bool.{false, cond, _&&_};
+ghost use mathlib.Core.Bool.{false, cond};
 ghost use mathlib.Core.List.{List, []};
 ghost use Prim.Native.Nat.{ℕ};
 ghost use lib.ListN.{length};
 ghost use Rattle.writer.specs.Calls.{told};
-ghost use Rattle.dds.specs.Slices.{writerLength, answerLength, lengthsKept, b4Meant, writerMeant};
-ghost use Rattle.dds.specs.Calls.{Outcome, outcome, answered, ofLengths, ofMeaning, writeState};
+ghost use Rattle.dds.specs.Slices.{writerLength, answerLength};
+ghost use Rattle.dds.specs.Calls.{Outcome, outcome, answered, ofSlices, writeState};
 ghost use Rattle.dds.specs.Calls.{ddsWriterStart, ddsRecord, ddsSeparator, ddsEnd};
 use crate::slices;
 use writer::WriteAnswer;
@@ -62,7 +62,7 @@ fn finish(state: &mut [u8], answer: &mut [u8], done: WriteAnswer) -> u32
 
 // Whether the slices refuse a call: by a length, with nothing written, or by a number that has no meaning, with the answer.
 fn refused(state: &[u8], warn: u32, answer: &mut [u8]) -> bool
-    ensures { λ r. ⌜ ((lent : List ℕ) (done : Outcome) → cond r (outcome 1 (now (state .entry)) lent (now (answer .exit))) done ≡ ofLengths (lengthsKept (length (now (state .entry))) writerLength (length (now (answer .entry)))) (now (state .entry)) lent (now (answer .entry)) (ofMeaning (writerMeant (now (state .entry)) && b4Meant warn) (now (state .entry)) lent done)) ⌝ }
+    ensures { λ r. ⌜ ((group : List ℕ) (done : Outcome) → cond r (outcome 1 (now (state .entry)) group (now (answer .exit))) done ≡ ofSlices (now (state .entry)) group warn (now (answer .entry)) done) ⌝ }
     ensures { λ r. ⌜ (r ≡ false → (length (now (state .entry)) ≡ writerLength) × (length (now (answer .exit)) ≡ answerLength)) ⌝ }
 {
     if !slices::lengths_kept(state.len(), slices::WRITER_LENGTH, answer.len()) {

@@ -5,7 +5,6 @@ use mathlib.Core.Bool.{true}
 use mathlib.Core.List.{[]}
 use lib.ListN.{length}
 use Rattle.group.proofs.Tests.{fails, holds}
-use Rattle.reader.specs.Answer.{startTold}
 use Rattle.dds.specs.Slices.{readerLength, answerLength, lengthsKept}
 use Rattle.dds.specs.Calls.{ddsReaderStart}
 use Rattle.dds.proofs.Outcomes.{lengths, length-refused, length-passed, stored}

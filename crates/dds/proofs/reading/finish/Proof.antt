@@ -1,7 +1,6 @@
 -- `finish` meets its contract, answer by answer. Assumes nothing.
 use borrow.Author.Needs.{needs}
 use mathlib.Core.Path.{refl}
-use Rattle.reader.specs.Answer.{told}
 use Rattle.dds.proofs.Outcomes.{stored}
 use Rattle.dds.proofs.reading.finish.Statement.{statement}
 use Rattle.dds.proofs.reading.finish.Tie as tie

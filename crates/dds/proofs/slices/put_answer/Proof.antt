@@ -8,9 +8,14 @@ use Rattle.dds.proofs.slices.put_answer.Tie as tie
 
 returns : tie.Need-returns
 returns c =
-    let s = c .before .before .before .before .before .before .before .before .before .before .before .before .before .before .before .before .before .before .before .before .before .before .before .before .before in
-    let a = s .args in
-    (refl, rw (c .before .before .put-number6 .ensures, c .before .before .before .before .before .before .put-number5 .ensures, c .before .before .before .before .before .before .before .before .before .before .put-number4 .ensures, c .before .before .before .before .before .before .before .before .before .before .before .before .before .before .put-number3 .ensures, c .before .before .before .before .before .before .before .before .before .before .before .before .before .before .before .before .before .before .put-number2 .ensures, c .before .before .before .before .before .before .before .before .before .before .before .before .before .before .before .before .before .before .before .before .before .before .put-number .ensures) (puts-whole (a .slice .now) (a .refusal ∷ a .place ∷ a .outcome ∷ a .number ∷ a .entries ∷ a .taken ∷ []) (s .pre)))
+    let c6 = c .before .before in
+    let c5 = c6 .before .before .before .before in
+    let c4 = c5 .before .before .before .before in
+    let c3 = c4 .before .before .before .before in
+    let c2 = c3 .before .before .before .before in
+    let c1 = c2 .before .before .before .before in
+    let s = c1 .before .before .before in
+    (refl, rw (c6 .put-number6 .ensures, c5 .put-number5 .ensures, c4 .put-number4 .ensures, c3 .put-number3 .ensures, c2 .put-number2 .ensures, c1 .put-number .ensures) (puts-whole (s .args .slice .now) (s .args .refusal ∷ s .args .place ∷ s .args .outcome ∷ s .args .number ∷ s .args .entries ∷ s .args .taken ∷ []) (s .pre)))
 
 pub put-answer-spec : {M : Type 1} → statement M
 put-answer-spec =

@@ -7,8 +7,12 @@ use Rattle.dds.proofs.slices.put_reader.Tie as tie
 
 returns : tie.Need-returns
 returns c =
-    let s = c .before .before .before .before .before .before .before .before .before .before .before .before .before .before .before .before .before .before in
-    rw (c .before .before .keep4 .ensures, c .before .before .before .before .before .before .keep3 .ensures, c .before .before .before .before .before .before .before .before .before .before .keep2 .ensures, c .before .before .before .before .before .before .before .before .before .before .before .before .before .before .keep .ensures, c .before .before .before .before .before .before .before .before .before .before .before .before .before .before .before .before .phase-number .ensures) (puts-whole (s .args .slice .now) (readerNumbers (s .args .r)) (s .pre))
+    let c4 = c .before .before in
+    let c3 = c4 .before .before .before .before in
+    let c2 = c3 .before .before .before .before in
+    let c1 = c2 .before .before .before .before in
+    let s = c1 .before .before .before .before in
+    rw (c4 .keep4 .ensures, c3 .keep3 .ensures, c2 .keep2 .ensures, c1 .keep .ensures, c1 .before .before .phase-number .ensures) (puts-whole (s .args .slice .now) (readerNumbers (s .args .r)) (s .pre))
 
 pub put-reader-spec : {M : Type 1} → statement M
 put-reader-spec =

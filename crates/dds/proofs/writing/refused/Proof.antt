@@ -18,15 +18,15 @@ long : (c : tie.Else1) → (length (c .before .before .before .before .args .sta
 long c = lengths _ _ _ (kept c)
 
 by-length : tie.Need-returns
-by-length c = (λ lent done. length-refused _ lent _ _ (fails (c .before .lengths-kept .ensures) (c .if1 .taken)), λ e. absurd (true≢false e))
+by-length c = (λ group done. length-refused _ group _ _ (fails (c .before .lengths-kept .ensures) (c .if1 .taken)), λ e. absurd (true≢false e))
 
 by-meaning : tie.Need-returns-2
 by-meaning c =
     let p = c .before .before .put-answer .ensures in
-    (λ lent done. stored (refusal 1) lent refl refl (p .1) ∙ meaning-refused _ lent done (fails (c .before .before .before .before .before .writer-meant .ensures) (c .before .before .before .before .if2 .taken)) ∙ length-passed _ lent _ _ (kept (c .before .before .before .before .before .before)), λ e. absurd (true≢false e))
+    (λ group done. stored (refusal 1) group refl refl (p .1) ∙ meaning-refused _ group done (fails (c .before .before .before .before .before .writer-meant .ensures) (c .before .before .before .before .if2 .taken)) ∙ length-passed _ group _ _ (kept (c .before .before .before .before .before .before)), λ e. absurd (true≢false e))
 
 let-through : tie.Need-returns-3
-let-through c = (λ lent done. meaning-passed _ lent done (holds (c .before .writer-meant .ensures) (c .if2 .left)) ∙ length-passed _ lent _ _ (kept (c .before .before)), λ e. long (c .before .before))
+let-through c = (λ group done. meaning-passed _ group done (holds (c .before .writer-meant .ensures) (c .if2 .left)) ∙ length-passed _ group _ _ (kept (c .before .before)), λ e. long (c .before .before))
 
 pub refused-spec : {M : Type 1} → statement M
 refused-spec =
