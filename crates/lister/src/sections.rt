@@ -75,7 +75,7 @@ fn size_section(bytes: &[u8]) -> Sections
 }
 
 // From the first count on: "4-byte count 1".
-pub fn sections_of(bytes: &[u8]) -> Sections
+pub(crate) fn sections_of(bytes: &[u8]) -> Sections
     ensures { λ r. ⌜ (r ≡ sectionsOf (now (bytes .entry))) × Ahead (length (now (bytes .entry))) r ⌝ }
 {
     if bytes.len() < 4 {
@@ -88,7 +88,7 @@ pub fn sections_of(bytes: &[u8]) -> Sections
 }
 
 // The pair of group i, counted from 0: its four bytes are loaded as one number.
-pub fn pair_at(bytes: &[u8], i: usize) -> Pair
+pub(crate) fn pair_at(bytes: &[u8], i: usize) -> Pair
     requires { ⌜ 12 + 4 * (i + 1) ≤ length (now bytes) ⌝ }
     ensures { λ r. ⌜ r ≡ pairAt (now (bytes .entry)) i ⌝ }
 {

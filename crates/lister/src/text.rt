@@ -101,7 +101,13 @@ fn add_head(text: &mut [u8], at: usize, number: u32, entries: u32) -> usize
 }
 
 // All lines of a group.
-pub fn add_group(text: &mut [u8], at: usize, number: u32, entries: u32, rows: &[u32]) -> usize
+pub(crate) fn add_group(
+    text: &mut [u8],
+    at: usize,
+    number: u32,
+    entries: u32,
+    rows: &[u32],
+) -> usize
     requires { ⌜ (at + (36 + 32 * entries) ≤ length (now text)) × (3 * entries ≤ length (now rows)) ⌝ }
     ensures { λ r. ⌜ Added (36 + 32 * entries) (now (text .entry)) at (groupLines number entries (now (rows .entry))) (now (text .exit)) r ⌝ }
 {
@@ -110,7 +116,7 @@ pub fn add_group(text: &mut [u8], at: usize, number: u32, entries: u32, rows: &[
 }
 
 // The line of a refusal.
-pub fn add_refusal(text: &mut [u8], at: usize, number: u32, place: u32) -> usize
+pub(crate) fn add_refusal(text: &mut [u8], at: usize, number: u32, place: u32) -> usize
     requires { ⌜ at + 33 ≤ length (now text) ⌝ }
     ensures { λ r. ⌜ Added 33 (now (text .entry)) at (refusalLine number place) (now (text .exit)) r ⌝ }
 {
@@ -122,7 +128,7 @@ pub fn add_refusal(text: &mut [u8], at: usize, number: u32, place: u32) -> usize
 }
 
 // The line that ends a run.
-pub fn add_end(text: &mut [u8], at: usize, phase: Phase, sum: u32) -> usize
+pub(crate) fn add_end(text: &mut [u8], at: usize, phase: Phase, sum: u32) -> usize
     requires { ⌜ at + 22 ≤ length (now text) ⌝ }
     ensures { λ r. ⌜ Added 22 (now (text .entry)) at (endLine phase sum) (now (text .exit)) r ⌝ }
 {
