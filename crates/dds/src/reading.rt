@@ -11,6 +11,7 @@ use reader::ReadAnswer;
 use reader::Reader;
 use reader::ReaderStart;
 
+// A fresh reader, into the state slice.
 #[no_mangle]
 pub extern "C" fn dds_reader_start(
     size: u32,
@@ -51,6 +52,7 @@ fn finish(state: &mut [u8], answer: &mut [u8], done: ReadAnswer) -> u32
     }
 }
 
+// Reads one group: its rows, and the state for the next.
 #[no_mangle]
 pub extern "C" fn dds_read(
     state: &mut [u8],

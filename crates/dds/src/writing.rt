@@ -13,6 +13,7 @@ use writer::WriteAnswer;
 use writer::Writer;
 use writer::WriterStart;
 
+// A fresh writer, into the state slice.
 #[no_mangle]
 pub extern "C" fn dds_writer_start(
     size: u32,
@@ -75,6 +76,7 @@ fn refused(state: &[u8], warn: u32, answer: &mut [u8]) -> bool
     false
 }
 
+// A record's bytes: whole, or as many as the group takes.
 #[no_mangle]
 pub extern "C" fn dds_record(
     state: &mut [u8],
@@ -94,6 +96,7 @@ pub extern "C" fn dds_record(
     finish(state, answer, done)
 }
 
+// Separator 1 is value 0, Separator 2 is value 1.
 #[no_mangle]
 pub extern "C" fn dds_separator(
     state: &mut [u8],
@@ -113,6 +116,7 @@ pub extern "C" fn dds_separator(
     finish(state, answer, done)
 }
 
+// The end of the run's data.
 #[no_mangle]
 pub extern "C" fn dds_end(state: &mut [u8], group: &mut [u8], warn: u32, answer: &mut [u8]) -> u32
     ensures { λ r. ⌜ outcome r (now (state .exit)) (now (group .exit)) (now (answer .exit)) ≡ ddsEnd (now (state .entry)) (now (group .entry)) warn (now (answer .entry)) ⌝ }
