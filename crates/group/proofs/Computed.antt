@@ -1,8 +1,7 @@
 -- A test that passes at each number below a bound, by one computation, and so at any such number; and a list's number at an index.
 -- Assumes nothing.
-use mathlib.Core.Path.{_≡_, _∙_, refl, subst, sym, ap}
+use mathlib.Core.Path.{_≡_, _∙_, subst, sym, ap}
 use mathlib.Core.Bool.{Bool, true, false, _&&_}
-use mathlib.Core.List.{List}
 use Prim.Native.Nat.{ℕ, zero, suc, _+_, _<_}
 use native.Mathlib.Nat.{add-zero, zero-add, add-suc, suc-add, le-of-suc-le-suc, not-suc-le-zero}
 use lib.Dec.{T}

@@ -4,10 +4,10 @@ use mathlib.Core.Path.{_≡_}
 use mathlib.Core.Bool.{true, not, _&&_}
 use Prim.Native.Nat.{ℕ, _≤_}
 use native.Mathlib.Omega.{arith}
-use borrow.Author.Tests.{not-false, eqb-true, leb-true}
+use borrow.Author.Tests.{not-false, eqb-true}
 use Rattle.group.specs.declared.Phase.{Phase}
 use Rattle.group.specs.declared.Phase.the-variants.{Free, Inside, Owed}
-use Rattle.group.specs.Sizes.{sizeKept, numberKept, entriesKept}
+use Rattle.group.specs.Sizes.{sizeKept, numberKept}
 use Rattle.group.specs.State.{nextKept, sumKept, runSound, startRefusal}
 use Rattle.group.proofs.Tests.{both, and, within, is-within, passed}
 

@@ -1,13 +1,13 @@
 -- Laws of `put`: what a store leaves before, at and after its place, and stores that meet.
 -- Assumes nothing.
-use mathlib.Core.Path.{_≡_, refl, sym, ap, _∙_}
+use mathlib.Core.Path.{_≡_, refl, ap, _∙_}
 use mathlib.Core.List.{List, [], _∷_, _++_, append-assoc}
 use Prim.Native.Nat.{ℕ, suc, _+_, _≤_, _<_, zero-le}
 use native.Mathlib.Numerals.{add-one, add-two, add-three}
 use native.Mathlib.Omega.{arith}
 use native.Mathlib.Nat.{add-zero}
 use lib.ListN.{length, getD, set, take, drop, length-set}
-use lib.Seq.{sets, length-sets, sets-eq, paste, paste-zero, paste-suc, take-length, take-set-le, drop-set-lt, length-take-le, drop-at, take-append-seam}
+use lib.Seq.{length-sets, sets-eq, paste, paste-zero, paste-suc, take-length, take-set-le, drop-set-lt, length-take-le, drop-at, take-append-seam}
 use Rattle.group.specs.Store.{put}
 
 -- A store keeps the length, wherever it is.

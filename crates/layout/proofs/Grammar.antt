@@ -1,11 +1,11 @@
 -- The grammar of tokens, by the reader's own tables, and that it takes exactly the tokens of sound laid items.
 -- Assumes nothing.
-use Prim.Native.Nat.{ℕ, zero, suc, _+_, _-_, _≤_, _<_}
+use Prim.Native.Nat.{ℕ, _+_, _-_, _≤_}
 use native.Mathlib.Omega.{arith}
-use native.Mathlib.Nat.{zero-add, add-zero, add-assoc}
-use mathlib.Core.List.{List, [], _∷_, _++_, append-assoc, append-nil}
+use native.Mathlib.Nat.{add-zero}
+use mathlib.Core.List.{List, [], _∷_, _++_, append-nil}
 use mathlib.Core.Bool.{Bool, true, false, cond, false≢true}
-use mathlib.Core.Path.{_≡_, refl, sym, ap, _∙_, subst}
+use mathlib.Core.Path.{_≡_, refl, ap}
 use lib.ListN.{length, length-append}
 use lib.Dec.{leb, eqb}
 use borrow.Author.Tests.{leb-true, le-leb, eqb-true, eq-eqb}
@@ -15,7 +15,7 @@ use Rattle.reader.specs.declared.Stand.{Stand}
 use Rattle.reader.specs.declared.Stand.the-variants.{Free, AfterPart, Inside, AfterLast, Owed}
 use Rattle.reader.specs.Rules.{mayFollow, partFault, countFault, standAfter, sumAfter, standAt, phaseAfter}
 use Rattle.reader.proofs.Faults.{part-kept}
-use Rattle.layout.specs.Items.{Laid, Tail, Piece, Token, tokens, tailTokens, middles, lateBy, joined, wholeOf, soFar, Each, Part, LateKept, SoundLaid, SoundTail}
+use Rattle.layout.specs.Items.{Laid, Tail, Piece, Token, tokens, tailTokens, middles, lateBy, joined, wholeOf, Each, Part, LateKept, SoundLaid, SoundTail}
 use Rattle.layout.specs.Items.Each.{each-none, each-more}
 use Rattle.layout.specs.Items.SoundLaid.{sound-entire, sound-spanned, sound-separator, sound-early}
 use Rattle.layout.specs.Items.SoundTail.{sound-none, sound-inside, sound-owed}

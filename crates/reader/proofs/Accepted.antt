@@ -1,14 +1,13 @@
 -- What the tests before a scan tell, what each way of a read answers, and what acceptance implies.
 -- Assumes nothing.
 use mathlib.Core.Path.{_≡_, refl, sym, ap, _∙_}
-use mathlib.Core.Bool.{Bool, true, false, cond, not, _&&_}
+use mathlib.Core.Bool.{Bool, true, false, cond, not}
 use mathlib.Core.List.{List}
-use Prim.Native.Nat.{ℕ, _+_, _*_, _-_, _≤_, _<_}
+use Prim.Native.Nat.{ℕ, _+_, _*_, _-_, _≤_}
 use native.Mathlib.Omega.{arith}
-use borrow.Author.Tests.{eq-eqb, ne-eqb, eqb-true, eqb-false, le-leb, leb-true, not-false}
+use borrow.Author.Tests.{eq-eqb, ne-eqb, eqb-true, le-leb, leb-true, not-false}
 use lib.Dec.{eqb, leb}
 use lib.ListN.{length}
-use Rattle.group.specs.declared.Phase.{Phase}
 use Rattle.group.specs.declared.Phase.the-variants as phase
 use Rattle.group.specs.Sizes.{lastNumber, informationLength, entryLength, entriesKept, entryOffset}
 use Rattle.group.specs.Entries.{entriesBelow}
@@ -18,9 +17,7 @@ use Rattle.reader.specs.declared.Reader.{Reader}
 use Rattle.reader.specs.declared.Cursor.{Cursor}
 use Rattle.reader.specs.declared.ScanEnd.{ScanEnd}
 use Rattle.reader.specs.declared.ScanEnd.the-variants as scanned
-use Rattle.reader.specs.declared.ReadAnswer.{ReadAnswer}
 use Rattle.reader.specs.declared.ReadAnswer.the-variants as answer
-use Rattle.reader.specs.Scan.{scan}
 use Rattle.reader.specs.Answer.{sound, lengthKept, nextIs, rowsFit, readRefusal, opening, closing, groupScan, answered, readCall}
 use Rattle.reader.specs.Bounds.{Cut, Bounded, Within}
 use Rattle.reader.proofs.Scans.{within}

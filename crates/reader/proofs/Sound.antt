@@ -1,12 +1,10 @@
 -- An accepted read leaves a sound state: from entry to entry the sum suits where the scan stands.
 -- Assumes nothing.
-use mathlib.Core.Path.{_≡_, refl, sym, ap, _∙_}
-use mathlib.Core.Bool.{Bool, true, false, cond, not, _&&_}
+use mathlib.Core.Path.{_≡_, refl}
+use mathlib.Core.Bool.{Bool, true, cond, not}
 use mathlib.Core.List.{List, [], _∷_}
 use Prim.Native.Nat.{ℕ, suc, _+_, _-_, _≤_}
 use native.Mathlib.Omega.{arith}
-use borrow.Author.Tests.{eqb-true, leb-true}
-use lib.Dec.{eqb, leb}
 use Rattle.group.specs.declared.Entry.{Entry}
 use Rattle.group.specs.declared.Kind.{Kind}
 use Rattle.group.specs.declared.Kind.the-variants.{Total, Separator, Middle, Start, Last, Entire, Skip}
@@ -27,10 +25,10 @@ use Rattle.reader.specs.declared.ScanEnd.the-variants.{Reached}
 use Rattle.reader.specs.declared.ReadAnswer.the-variants as answer
 use Rattle.reader.specs.Rules.{mayFollow, isSkip, countFault, standAt, phaseAfter, standAfter, sumAfter, entryFault}
 use Rattle.reader.specs.Scan.{after, isLast, scan}
-use Rattle.reader.specs.Answer.{sound, opening, closing, groupScan, readCall}
-use Rattle.reader.proofs.Faults.{Kept, kept, unknown-fault, part-kept}
+use Rattle.reader.specs.Answer.{sound, opening, groupScan, readCall}
+use Rattle.reader.proofs.Faults.{kept, part-kept}
 use Rattle.reader.proofs.Scans.{went-on}
-use Rattle.reader.proofs.Accepted.{Passed, accepted}
+use Rattle.reader.proofs.Accepted.{accepted}
 
 -- The sum suits a stand.
 abbrev pub Suits : Stand → ℕ → Type 0

@@ -1,11 +1,10 @@
 -- Serves contracts and proofs only: how large numbers are where the code adds them, and the tables that the code is lent.
 -- Assumes nothing.
-use Prim.Native.Nat.{ℕ, _+_, _*_, _-_, _≤_, _<_}
+use Prim.Native.Nat.{ℕ, _+_, _*_, _≤_}
 use mathlib.Core.Path.{_≡_}
 use mathlib.Core.List.{List, [], _∷_, map}
 use mathlib.Core.Bool.{Bool, false}
 use lib.ListN.{length}
-use Rattle.group.specs.declared.Kind.{Kind}
 use Rattle.group.specs.declared.Entry.{Entry}
 use Rattle.group.specs.Sizes.{standardSize, informationLength, entryLength, longestRecord}
 use Rattle.group.specs.Flags.{kinds, meaningOf}

@@ -10,7 +10,7 @@ use Rattle.group.specs.declared.Phase.{Phase}
 use Rattle.group.specs.declared.Phase.the-variants as phase
 use Rattle.group.specs.declared.Meaning.{Meaning}
 use Rattle.group.specs.declared.Meaning.the-variants.{Known, Unknown}
-use Rattle.group.specs.Sizes.{longestRecord, between}
+use Rattle.group.specs.Sizes.{longestRecord}
 use Rattle.group.specs.Flags.{kindNumber}
 use Rattle.reader.specs.declared.Stand.{Stand}
 use Rattle.reader.specs.declared.Stand.the-variants.{Free, AfterPart, Inside, AfterLast, Owed}

@@ -1,6 +1,6 @@
 -- `Reader::read` meets its contract: the judgement, and the rows where it accepts. Assumes nothing.
 use borrow.Author.Needs.{needs}
-use mathlib.Core.Path.{_≡_, sym, _∙_}
+use mathlib.Core.Path.{sym, _∙_}
 use Rattle.reader.specs.Answer.{groupRows}
 use Rattle.reader.proofs.Accepted.{accepted, cut, data-within}
 use Rattle.reader.proofs.Reader.read.Statement.{statement}

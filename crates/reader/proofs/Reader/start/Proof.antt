@@ -1,6 +1,5 @@
 -- `Reader::start` meets its contract. Assumes nothing.
 use borrow.Author.Needs.{needs}
-use mathlib.Core.Path.{_∙_, sym}
 use borrow.Author.Tests.{eq-eqb, ne-eqb}
 use Rattle.reader.specs.Answer.{readerStartCall}
 use Rattle.reader.proofs.Reader.start.Statement.{statement}

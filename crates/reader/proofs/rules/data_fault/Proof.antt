@@ -1,6 +1,5 @@
 -- `data_fault` meets its contract: the tests of the definition. Assumes nothing.
 use borrow.Author.Needs.{needs}
-use mathlib.Core.Path.{_∙_, sym}
 use borrow.Author.Tests.{le-leb, lt-leb, eq-eqb, ne-eqb}
 use Rattle.group.proofs.Tests.{fails, holds}
 use Rattle.reader.proofs.rules.data_fault.Statement.{statement}

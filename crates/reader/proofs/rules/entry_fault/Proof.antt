@@ -1,7 +1,6 @@
 -- `entry_fault` meets its contract: the tests of the definition, in its order. Assumes nothing.
 use borrow.Author.Needs.{needs}
-use mathlib.Core.Path.{_≡_, _∙_, sym, ap}
-use native.Mathlib.Omega.{arith}
+use mathlib.Core.Path.{_≡_, _∙_, sym}
 use Rattle.group.specs.declared.Meaning.the-variants.{Known}
 use Rattle.group.specs.Flags.{meaningOf}
 use Rattle.group.proofs.Tests.{fails, holds}

@@ -1,5 +1,4 @@
 -- `part_fault` meets its contract. Assumes nothing.
-use Rattle.group.proofs.Tests.{tests}
 use Rattle.reader.proofs.rules.part_fault.Statement.{statement}
 use Rattle.reader.proofs.rules.part_fault.Tie as tie
 use borrow.Author.Tests.{le-leb, lt-leb}
