@@ -12,8 +12,9 @@ use Rattle.group.specs.declared.Entry.{Entry}
 use Rattle.group.specs.Store.{put}
 use Rattle.group.specs.Numbers.{numberAt, bytesOf, Bytes}
 use Rattle.group.specs.Entries.{entry, entryAt, entryBytes, entriesBelow, tableBytes}
+use Rattle.group.specs.Coded.{Word}
 use Rattle.group.proofs.Stores.{put-split}
-use Rattle.group.proofs.NumberLaws.{length-bytes, count-at, number-after, number-from, number-of-bytes, bytes-of-number, number-small}
+use Rattle.group.proofs.NumberLaws.{length-bytes, count-at, three-bytes, four-bytes, number-after, number-from, number-of-bytes, bytes-of-number, number-small}
 
 -- A count that three bytes hold, and a list of entries whose counts they hold.
 abbrev pub Small : List Entry → Type 0
@@ -21,14 +22,28 @@ Small [] = Unit {0}
 Small (e ∷ es) = (e .count < 16777216) × Small es
 
 -- An entry's four bytes, joined to one number, and taken apart again.
-pub entry-joined : (s : List ℕ) (at n : ℕ) → getD s (at + 1) 0 < 256 → getD s (at + 2) 0 < 256 → getD s (at + 3) 0 < 256
+pub entry-word : (s : List ℕ) (at n : ℕ) → getD s (at + 1) 0 < 256 → getD s (at + 2) 0 < 256 → getD s (at + 3) 0 < 256
     → n ≡ getD s at 0 * 16777216 + getD s (at + 1) 0 * 65536 + getD s (at + 2) 0 * 256 + getD s (at + 3) 0
-    → entry (n / 16777216) (n % 16777216) ≡ entryAt s at
+    → Word (entryAt s at) n
 unfolding entryAt
-entry-joined s at n h2 h3 h4 e =
-    let high : n / 16777216 ≡ getD s at 0 = omega arith in
-    let low : n % 16777216 ≡ numberAt 3 s (at + 1) = omega (arith, count-at s at) in
+entry-word s at n h2 h3 h4 e = record { is = omega (arith, count-at s at); small = omega (arith, count-at s at) }
+
+pub word-apart : (e : Entry) (n : ℕ) → Word e n → entry (n / 16777216) (n % 16777216) ≡ e
+word-apart e n w =
+    let high : n / 16777216 ≡ e .flag = omega (arith, w .is, w .small) in
+    let low : n % 16777216 ≡ e .count = omega (arith, w .is, w .small) in
     rw (high, low)
+
+-- An entry's count as a number of four bytes: its own three, after a 0.
+pub count-bytes : (s : List ℕ) (at n : ℕ) → getD s (at + 1) 0 < 256 → getD s (at + 2) 0 < 256 → getD s (at + 3) 0 < 256 → n ≡ entryAt s at .count
+    → bytesOf 4 n ≡ 0 ∷ getD s (at + 1) 0 ∷ getD s (at + 2) 0 ∷ getD s (at + 3) 0 ∷ []
+unfolding entryAt
+count-bytes s at n h2 h3 h4 e =
+    let none : n / 16777216 % 256 ≡ 0 = omega (arith, count-at s at) in
+    let first : n / 65536 % 256 ≡ getD s (at + 1) 0 = omega (arith, count-at s at) in
+    let second : n / 256 % 256 ≡ getD s (at + 2) 0 = omega (arith, count-at s at) in
+    let third : n % 256 ≡ getD s (at + 3) 0 = omega (arith, count-at s at) in
+    rw (four-bytes n, three-bytes n, none, first, second, third)
 
 -- How long an entry and a table are, and how many entries are read.
 pub length-entry : (e : Entry) → length (entryBytes e) ≡ 4

@@ -1,12 +1,12 @@
 -- Laws of `put`: what a store leaves before, at and after its place, and stores that meet.
 -- Assumes nothing.
-use mathlib.Core.Path.{_≡_, refl, ap, _∙_}
+use mathlib.Core.Path.{_≡_, refl, sym, ap, _∙_}
 use mathlib.Core.List.{List, [], _∷_, _++_, append-assoc}
-use Prim.Native.Nat.{ℕ, suc, _+_, _≤_, _<_, zero-le}
+use Prim.Native.Nat.{ℕ, zero, suc, _+_, _≤_, _<_, zero-le}
 use native.Mathlib.Numerals.{add-one, add-two, add-three}
 use native.Mathlib.Omega.{arith}
 use native.Mathlib.Nat.{add-zero}
-use lib.ListN.{length, getD, set, take, drop, length-set}
+use lib.ListN.{length, getD, set, take, drop, length-set, length-append}
 use lib.Seq.{length-sets, sets-eq, paste, paste-zero, paste-suc, take-length, take-set-le, drop-set-lt, length-take-le, drop-at, take-append-seam}
 use Rattle.group.specs.Store.{put}
 
@@ -51,6 +51,31 @@ put-put old at [] b = rw add-zero
 put-put old at (x ∷ a) b =
     let e : at + suc (length a) ≡ suc at + length a = omega arith in
     rw e (put-put (set old at x) (suc at) a b)
+
+-- Two stores, the second before the first.
+pub put-before : (old : List ℕ) (at : ℕ) (a b : List ℕ) → at + length a + length b ≤ length old → put (put old (at + length a) b) at a ≡ put old at (a ++ b)
+put-before old at a b h =
+    let n = at + length a in
+    let pre : length (take n old) ≡ n = length-take-le n old (omega arith) in
+    let long : at + length a ≤ length (put old n b) = rw (length-put old n b) (omega arith) in
+    let whole : at + length (a ++ b) ≤ length old = rw (length-append a b) (omega arith) in
+    let end : at + (length a + length b) ≡ n + length b = omega arith in
+    let after : drop n (put old n b) ≡ b ++ drop (n + length b) old =
+    rw (put-split old n b h, append-assoc) (drop-at (take n old) (b ++ drop (n + length b) old) n pre) in
+    rw (put-split (put old n b) at a long, take-put at old n b (omega arith), after, put-split old at (a ++ b) whole, length-append a b, end, append-assoc, append-assoc, append-assoc)
+
+-- A store over one that begins at the same place.
+set-again : (old : List ℕ) (at x y : ℕ) → set (set old at x) at y ≡ set old at y
+set-again [] at x y = refl
+set-again (z ∷ old) zero x y = refl
+set-again (z ∷ old) (suc at) x y = ap (λ (l : List ℕ). z ∷ l) (set-again old at x y)
+
+pub put-over : (old : List ℕ) (at x y : ℕ) (more : List ℕ) → at + 1 + length more ≤ length old → set (put old at (x ∷ more)) at y ≡ put old at (y ∷ more)
+unfolding put
+put-over old at x y more h =
+    let long : at + 1 + length more ≤ length (set old at x) = rw (length-set old at x) h in
+    let before : set (put (set old at x) (at + 1) more) at y ≡ put (set old at x) at (y ∷ more) = put-before (set old at x) at (y ∷ []) more long in
+    ap (λ (k : ℕ). set (put (set old at x) k more) at y) (sym (add-one at)) ∙ before ∙ ap (λ (l : List ℕ). put l (suc at) more) (set-again old at x y)
 
 -- Four stores, one after the other.
 pub put-four : (old : List ℕ) (at a b c d : ℕ)

@@ -1,4 +1,5 @@
--- Serves contracts and proofs, and says nothing of the format: a flag's meaning as one number, its code, and the table of codes.
+-- Serves contracts and proofs, and says nothing of the format: a flag's meaning as one number, its code, the table of codes, and
+-- an entry as one number.
 -- Assumes nothing.
 use Prim.Native.Nat.{ℕ, zero, suc, _+_, _*_, _/_, _%_, _<_}
 use mathlib.Core.Path.{_≡_}
@@ -6,6 +7,7 @@ use mathlib.Core.List.{List, [], _∷_, map}
 use mathlib.Core.Bool.{Bool, true, false}
 use lib.Dec.{eqb}
 use lib.ListN.{getD}
+use Rattle.group.specs.declared.Entry.{Entry}
 use Rattle.group.specs.declared.Kind.{Kind}
 use Rattle.group.specs.declared.Meaning.{Meaning}
 use Rattle.group.specs.declared.Meaning.the-variants.{Known, Unknown}
@@ -37,3 +39,8 @@ flagTable = listed (λ (high : ℕ). listed (λ (low : ℕ). codeOf (meaningOf (
 pub record Below (limit of r : ℕ) : Type 0 where
   pub is : r ≡ of
   pub small : r < limit
+
+-- An entry as one number: its flag above its count, which three bytes hold.
+pub record Word (e : Entry) (n : ℕ) : Type 0 where
+  pub is : n ≡ e .flag * 16777216 + e .count
+  pub small : e .count < 16777216

@@ -2,12 +2,12 @@
 -- Assumes nothing.
 use mathlib.Core.Path.{_≡_, refl, sym, ap, _∙_}
 use mathlib.Core.List.{List, [], _∷_, _++_, append-assoc, append-nil}
-use Prim.Native.Nat.{ℕ, _+_, _*_}
+use Prim.Native.Nat.{ℕ, _+_, _*_, _≤_}
 use native.Mathlib.Omega.{arith}
 use lib.ListN.{length, length-append}
 use Rattle.group.specs.Store.{put}
 use Rattle.group.specs.Numbers.{bytesOf}
-use Rattle.group.proofs.Stores.{put-put}
+use Rattle.group.proofs.Stores.{put-put, put-before}
 use Rattle.group.proofs.NumberLaws.{length-bytes}
 use Rattle.reader.specs.Answer.{inBytes}
 
@@ -33,8 +33,16 @@ one : (n : ℕ) → bytesOf 4 n ≡ inBytes (n ∷ [])
 unfolding inBytes
 one n = sym (append-nil (bytesOf 4 n))
 
-pub put-row : (rows r₁ r₂ r₃ : List ℕ) (at a b c : ℕ) → r₁ ≡ put rows at (bytesOf 4 a) → r₂ ≡ put r₁ (at + 4) (bytesOf 4 b) → r₃ ≡ put r₂ (at + 8) (bytesOf 4 c)
+-- A list's bytes begin with those of its first number.
+first : (n : ℕ) (ns : List ℕ) → bytesOf 4 n ++ inBytes ns ≡ inBytes (n ∷ ns)
+unfolding inBytes
+first n ns = refl
+
+-- A row's three numbers, the first put last.
+pub put-row : (rows r₁ r₂ r₃ : List ℕ) (at a b c : ℕ) → at + 12 ≤ length rows → r₁ ≡ put rows (at + 4) (bytesOf 4 b) → r₂ ≡ put r₁ (at + 8) (bytesOf 4 c) → r₃ ≡ put r₂ at (bytesOf 4 a)
     → r₃ ≡ put rows at (inBytes (a ∷ b ∷ c ∷ []))
-put-row rows r₁ r₂ r₃ at a b c e f g =
-    rw (g, f, e, one a, one b, one c, put-more rows at (at + 4) (a ∷ []) (b ∷ []) (omega arith))
-    (put-more rows at (at + 8) (a ∷ b ∷ []) (c ∷ []) (omega arith))
+put-row rows r₁ r₂ r₃ at a b c h e f g =
+    let long : at + length (bytesOf 4 a) + length (inBytes (b ∷ c ∷ [])) ≤ length rows = rw (length-bytes 4 a, length-in-bytes (b ∷ c ∷ [])) (omega arith) in
+    let later : r₂ ≡ put rows (at + length (bytesOf 4 a)) (inBytes (b ∷ c ∷ [])) =
+    rw (f, e, one b, one c, length-bytes 4 a) (put-more rows (at + 4) (at + 8) (b ∷ []) (c ∷ []) (omega arith)) in
+    rw (g, later) (put-before rows at (bytesOf 4 a) (inBytes (b ∷ c ∷ [])) long ∙ ap (put rows at) (first a (b ∷ c ∷ [])))

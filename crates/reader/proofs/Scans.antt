@@ -3,7 +3,7 @@
 use mathlib.Core.Path.{_≡_, refl, sym, ap, _∙_, subst}
 use mathlib.Core.Bool.{Bool, true, false, cond}
 use mathlib.Core.List.{List, [], _∷_}
-use Prim.Native.Nat.{ℕ, zero, suc, _+_, _-_, _/_, _≤_, _<_}
+use Prim.Native.Nat.{ℕ, zero, suc, _+_, _*_, _-_, _/_, _%_, _^_, _≤_, _<_}
 use native.Mathlib.Nat.{not-suc-le-zero}
 use native.Mathlib.Numerals.{add-one}
 use native.Mathlib.Omega.{arith}
@@ -12,19 +12,23 @@ use borrow.Author.Tests.{eq-eqb, ne-eqb, eqb-true}
 use lib.Dec.{eqb, eqb·suc-zero}
 use Rattle.group.specs.declared.Entry.{Entry}
 use Rattle.group.specs.declared.Kind.{Kind}
+use Rattle.group.specs.declared.Kind.the-variants.{Skip}
 use Rattle.group.specs.declared.Meaning.{Meaning}
 use Rattle.group.specs.declared.Meaning.the-variants.{Known, Unknown}
+use Rattle.group.specs.Sizes.{longestRecord, entryOffset}
 use Rattle.group.specs.Entries.{entryAt, entriesBelow}
-use Rattle.group.specs.Flags.{meaningOf}
+use Rattle.group.specs.Flags.{flagOf, meaningOf}
 use Rattle.group.specs.Coded.{codeOf, Below}
 use Rattle.group.proofs.FlagLaws.{each}
 use Rattle.reader.specs.declared.Cursor.{Cursor}
+use Rattle.reader.specs.declared.Stand.{Stand}
+use Rattle.reader.specs.declared.Stand.the-variants.{Free, AfterPart, Inside, AfterLast, Owed}
 use Rattle.reader.specs.declared.ScanEnd.{ScanEnd}
 use Rattle.reader.specs.declared.ScanEnd.the-variants.{Reached, Refused}
-use Rattle.reader.specs.Rules.{entryFault}
+use Rattle.reader.specs.Rules.{mayFollow, holdsData, entryFault}
 use Rattle.reader.specs.Scan.{after, isLast, onward, scan, rowKind, reachedBy, rowsFrom}
-use Rattle.reader.specs.Bounds.{Bounded, Within}
-use Rattle.reader.proofs.Faults.{stays}
+use Rattle.reader.specs.Bounds.{standNumber, Bounded, Within, scanLeft, freeAt, Single}
+use Rattle.reader.proofs.Faults.{stays, single-kept, single-after, skip-kept, skip-after}
 
 -- Entry n is the last, by how many are left.
 last-is : (group : List ℕ) (top n : ℕ) → isLast (entriesBelow group top n) ≡ eqb n 0
@@ -48,12 +52,61 @@ pub ended : (group : List ℕ) (size limit top left place : ℕ) (c : Cursor) �
 unfolding scan entriesBelow
 ended group size limit top left place c e = rw e
 
+-- The same, by how many entries are left.
+pub left-turn : (group : List ℕ) (size n left : ℕ) (c : Cursor) (e : Entry) (fault : ℕ) → 1 ≤ left → left ≤ n → e ≡ entryAt group (entryOffset size n + 4 * (left - 1))
+    → fault ≡ entryFault size (entryOffset size n) (eqb (left - 1) 0) c (meaningOf (e .flag)) (e .count)
+    → scanLeft size n group left c ≡ onward fault (n + 1 - left) c (scanLeft size n group (left - 1) (after c (meaningOf (e .flag)) (e .count)))
+left-turn group size n left c e fault some most is found =
+    let below : entryOffset size n + 4 * left - 4 ≡ entryOffset size n + 4 * (left - 1) = omega arith in
+    let next : n + 1 - left + 1 ≡ n + 1 - (left - 1) = omega arith in
+    rw (← next, ← below)
+    (turn group size (entryOffset size n) (entryOffset size n + 4 * left) left (n + 1 - left) c e fault some (rw below is) found)
+
+-- With all entries left it is the scan of the group, and with none it has reached its end.
+pub all-left : (group : List ℕ) (size n : ℕ) (c : Cursor) → 32 + 4 * n ≤ size → scanLeft size n group n c ≡ scan size (entryOffset size n) (entriesBelow group (size - 32) n) 1 c
+all-left group size n c h =
+    let top : entryOffset size n + 4 * n ≡ size - 32 = omega arith in
+    let first : n + 1 - n ≡ 1 = omega arith in
+    rw (top, first)
+
+pub none-left : (group : List ℕ) (size n left : ℕ) (c : Cursor) → left ≡ 0 → Reached c ≡ scanLeft size n group left c
+none-left group size n left c e = ended group size (entryOffset size n) (entryOffset size n + 4 * left) left (n + 1 - left) c e
+
 -- What an entry's number leads to.
 pub stops : (fault place : ℕ) (c : Cursor) (rest : ScanEnd) → (fault ≡ 0 → ⊥) → Refused fault place c ≡ onward fault place c rest
 stops fault place c rest h = rw (ne-eqb fault 0 h)
 
 pub goes-on : (fault place : ℕ) (c : Cursor) (rest : ScanEnd) → fault ≡ 0 → rest ≡ onward fault place c rest
 goes-on fault place c rest h = rw (eq-eqb fault 0 h)
+
+-- The stand whose number is 0.
+pub free-is : (stand : Stand) → standNumber stand ≡ 0 → stand ≡ Free
+free-is Free e = refl
+free-is AfterPart e = absurd (omega arith)
+free-is Inside e = absurd (omega arith)
+free-is AfterLast e = absurd (omega arith)
+free-is Owed e = absurd (omega arith)
+
+-- One separator or entire record of a run, and the skip that ends a group.
+pub single-turn : (group : List ℕ) (size n left : ℕ) (w : Bool) (sum reached bytes : ℕ) (e : Entry) → 2 ≤ left → left ≤ n
+    → e ≡ entryAt group (entryOffset size n + 4 * (left - 1)) → Single w e bytes → e .count ≤ longestRecord → reached + bytes ≤ entryOffset size n
+    → scanLeft size n group (left - 1) (freeAt w 0 (reached + bytes)) ≡ scanLeft size n group left (freeAt w sum reached)
+single-turn group size n left w sum reached bytes e two most is s small fits =
+    let more : eqb (left - 1) 0 ≡ false = ne-eqb (left - 1) 0 (λ z. absurd (omega arith)) in
+    let kept = single-kept size (entryOffset size n) w sum reached bytes e s small fits in
+    ap (scanLeft size n group (left - 1)) (sym (single-after w sum reached bytes e s))
+    ∙ sym (left-turn group size n left _ e 0 (omega arith) most is (rw more (sym kept)))
+
+pub skip-turn : (group : List ℕ) (size n left : ℕ) (c : Cursor) (e : Entry) → left ≡ 1 → 1 ≤ n → e ≡ entryAt group (entryOffset size n)
+    → e .flag ≡ flagOf Skip (c .warned) → e .count ≡ size - c .reached → c .reached ≤ entryOffset size n → mayFollow (c .stand) Skip ≡ true
+    → Reached c ≡ scanLeft size n group left c
+skip-turn group size n left c e one some is f count r h =
+    let at : entryOffset size n + 4 * (left - 1) ≡ entryOffset size n = omega arith in
+    let none : left - 1 ≡ 0 = omega arith in
+    let last : eqb (left - 1) 0 ≡ true = eq-eqb (left - 1) 0 none in
+    none-left group size n (left - 1) c none
+    ∙ ap (scanLeft size n group (left - 1)) (sym (skip-after c e f))
+    ∙ sym (left-turn group size n left c e 0 (omega arith) (omega arith) (rw at is) (rw last (sym (skip-kept size (entryOffset size n) c e f count r h))))
 
 -- A scan that reached its end met no fault.
 pub went-on : (fault place : ℕ) (c d : Cursor) (rest : ScanEnd) → onward fault place c rest ≡ Reached d → (fault ≡ 0) × (rest ≡ Reached d)
@@ -105,3 +158,24 @@ row-kind m {code} b = ap (λ (n : ℕ). n / 2) (b .is) ∙ half m
     half : (m : Meaning) → codeOf m / 2 ≡ rowKind m
     half Unknown = refl
     half (Known k w) = each (λ (k : Kind) (w : Bool). codeOf (Known k w) / 2 ≡ rowKind (Known k w)) (search needs) k w
+
+-- The bit of a code says whether its count is data.
+share-of : (k : Kind) (w : Bool) → 16320 / 2 ^ codeOf (Known k w) % 2 ≡ cond (holdsData k) 1 0
+share-of k w = each (λ (k : Kind) (w : Bool). 16320 / 2 ^ codeOf (Known k w) % 2 ≡ cond (holdsData k) 1 0) (search needs) k w
+
+pub share-reaches : (m : Meaning) (reached count : ℕ) {code share : ℕ} → Below 16 (codeOf m) code → share ≡ 16320 / 2 ^ code % 2 → reached + count * share ≡ reachedBy m reached count
+share-reaches Unknown reached count {code} {share} b e =
+    let none : share ≡ 0 = e ∙ ap (λ (n : ℕ). 16320 / 2 ^ n % 2) (b .is) in
+    rw none (omega arith)
+share-reaches (Known k w) reached count {code} {share} b e =
+    by (holdsData k) refl (e ∙ ap (λ (n : ℕ). 16320 / 2 ^ n % 2) (b .is) ∙ share-of k w)
+  where
+    by : (t : Bool) → holdsData k ≡ t → share ≡ cond (holdsData k) 1 0 → reached + count * share ≡ cond (holdsData k) (reached + count) reached
+    by true x h = rw (h, x) (omega arith)
+    by false x h = rw (h, x) (omega arith)
+
+-- A bit's share of a count is no more than the count.
+pub share-small : (count share n : ℕ) → share ≡ n % 2 → count * share ≤ count
+share-small count zero n e = omega arith
+share-small count (suc zero) n e = omega arith
+share-small count (suc (suc more)) n e = absurd (omega arith)

@@ -4,6 +4,7 @@ mod row_bytes;
 mod rows;
 mod rules;
 mod scan;
+mod singles;
 
 ghost use mathlib.Core.Path.{_≡_};
 ghost use Prim.Native.Nat.{_/_};
@@ -102,7 +103,7 @@ impl Reader {
         0
     }
 
-    // The judgement of a read, with the flag table lent.
+    // The judgement of a read, with the flag table lent. From here on the size is the group's length, which is at hand.
     fn judge_in(
         self,
         flags: &[[u8; 16]; 16],
@@ -123,7 +124,8 @@ impl Reader {
             };
         }
         let opening = scan::opening(self);
-        match scan::scan_entries(flags, group, self.size, entries, opening) {
+        let size = group.len() as u32;
+        match scan::scan_entries(flags, group, size, entries, opening) {
             ScanEnd::Refused(fault, place, _) => ReadAnswer::Refused {
                 state: self,
                 number: fault,
@@ -170,7 +172,8 @@ impl Reader {
         let answer = self.judge_in(&flags, group, number, entries, rows.len() / 4);
         match answer {
             ReadAnswer::Accepted(_) => {
-                row_bytes::fill_bytes(&flags, group, self.size, entries, rows);
+                let size = group.len() as u32;
+                row_bytes::fill_bytes(&flags, group, size, entries, rows);
                 answer
             }
             ReadAnswer::Refused {

@@ -3,24 +3,39 @@ ghost use mathlib.Core.Path.{_≡_};
 ghost use mathlib.Core.List.{[], _∷_};
 ghost use Prim.Native.Nat.{_+_, _*_, _-_, _≤_};
 ghost use lib.ListN.{length};
-ghost use Rattle.group.specs.Sizes.{informationLength, entryOffset};
+ghost use Rattle.group.specs.Sizes.{informationLength, longestRecord, entryOffset};
 ghost use Rattle.group.specs.Store.{put};
-ghost use Rattle.group.specs.Entries.{entriesBelow};
+ghost use Rattle.group.specs.Entries.{entryAt, entriesBelow};
+ghost use Rattle.group.specs.Flags.{meaningOf};
 ghost use Rattle.group.specs.Coded.{flagTable};
-ghost use Rattle.reader.specs.Scan.{rowsFrom};
+ghost use Rattle.reader.specs.Scan.{rowKind, reachedBy, rowsFrom};
 ghost use Rattle.reader.specs.Answer.{inBytes};
 ghost use Rattle.reader.specs.Bounds.{Cut, Within};
 use crate::rules;
 use group::Group;
 
-// One row as bytes: three numbers of four bytes each.
-fn put_row(rows: &mut [u8], at: usize, kind: u32, reached: u32, count: u32)
-    requires { ⌜ at + 12 ≤ length (now rows) ⌝ }
-    ensures { λ _. ⌜ now (rows .exit) ≡ put (now (rows .entry)) at (inBytes (kind ∷ reached ∷ count ∷ [])) ⌝ }
+// The row of the entry at `at`, as bytes from index `i` on. Answers the data offset reached after it. Between two numbers'
+// stores stands a load: a number's four byte stores become one where no other store is next to them.
+fn put_row(
+    flags: &[[u8; 16]; 16],
+    group: &[u8],
+    at: usize,
+    reached: u32,
+    rows: &mut [u8],
+    i: usize,
+) -> u32
+    requires { ⌜ now flags ≡ flagTable ⌝ }
+    requires { ⌜ (at + 4 ≤ length (now group)) × (i + 12 ≤ length (now rows)) ⌝ }
+    requires { ⌜ reached ≤ longestRecord ⌝ }
+    ensures { λ r. ⌜ r ≡ reachedBy (meaningOf (entryAt (now (group .entry)) at .flag)) reached (entryAt (now (group .entry)) at .count) ⌝ }
+    ensures { λ _. ⌜ now (rows .exit) ≡ put (now (rows .entry)) i (inBytes (rowKind (meaningOf (entryAt (now (group .entry)) at .flag)) ∷ reached ∷ entryAt (now (group .entry)) at .count ∷ [])) ⌝ }
 {
-    group::numbers::put_number(rows, at, kind);
-    group::numbers::put_number(rows, at + 4, reached);
-    group::numbers::put_number(rows, at + 8, count);
+    let flag = group[at];
+    group::numbers::put_number(rows, i + 4, reached);
+    let count = group::numbers::move_count(rows, i + 8, group, at, flag);
+    let code = group::flags::code_in(flags, flag);
+    group::numbers::put_number(rows, i, (code / 2) as u32);
+    rules::reached_by(flag, code, reached, count)
 }
 
 // The same numbers as bytes, twelve an entry.
@@ -44,12 +59,7 @@ pub(crate) fn fill_bytes(
     while 0 < left {
         top = top - Group::ENTRY_LENGTH;
         left = left - 1;
-        let entry = group::numbers::entry_at(group, top as usize);
-        let flag = entry.flag;
-        let count = entry.count;
-        let code = group::flags::code_in(flags, flag);
-        put_row(rows, i, (code / 2) as u32, reached, count);
-        reached = rules::reached_by(flag, code, reached, count);
+        reached = put_row(flags, group, top as usize, reached, rows, i);
         i = i + 12;
     }
 }

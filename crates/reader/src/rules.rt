@@ -1,6 +1,6 @@
 // The rules of one entry, each as a number or a test.
 ghost use mathlib.Core.Path.{_≡_};
-ghost use Prim.Native.Nat.{_+_, _≤_, _<_};
+ghost use Prim.Native.Nat.{_+_, _/_, _%_, _^_, _≤_, _<_};
 ghost use Rattle.group.specs.Sizes.{standardSize, longestRecord};
 ghost use Rattle.group.specs.Flags.{meaningOf};
 ghost use Rattle.group.specs.Coded.{codeOf, Below};
@@ -28,7 +28,7 @@ pub(crate) fn follows() -> [[bool; 8]; 5]
     FOLLOWS
 }
 
-fn stand_number(stand: Stand) -> usize
+pub(crate) fn stand_number(stand: Stand) -> usize
     ensures { λ r. ⌜ r ≡ standNumber stand ⌝ }
 {
     match stand {
@@ -238,14 +238,20 @@ pub(crate) fn advance(here: Cursor, flag: u8, code: u8, count: u32) -> Cursor
     }
 }
 
+// 1 where the count is bytes of user data of this group, which it is for kinds 3 to 6; 0 otherwise. One bit for each code: a
+// choice by the kind would be a jump that the processor guesses wrong where kinds come mixed.
+fn share(code: u8) -> u32
+    requires { ⌜ code < 16 ⌝ }
+    ensures { λ r. ⌜ r ≡ 16320 / 2 ^ code % 2 ⌝ }
+{
+    (0x3FC0 >> code) % 2
+}
+
 // The data offset reached after an entry.
 pub(crate) fn reached_by(flag: u8, code: u8, reached: u32, count: u32) -> u32
     requires { ⌜ Below 16 (codeOf (meaningOf flag)) code ⌝ }
     requires { ⌜ (reached ≤ longestRecord) × (count ≤ longestRecord) ⌝ }
     ensures { λ r. ⌜ r ≡ reachedBy (meaningOf flag) reached count ⌝ }
 {
-    if code < 2 {
-        return reached;
-    }
-    reached_after(group::flags::kind_of(code), reached, count)
+    reached + count * share(code)
 }

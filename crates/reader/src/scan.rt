@@ -13,6 +13,7 @@ use crate::Reader;
 use crate::ScanEnd;
 use crate::Stand;
 use crate::rules;
+use crate::singles;
 use group::Group;
 use group::Phase;
 
@@ -65,7 +66,8 @@ pub(crate) fn closing(reader: Reader, cursor: Cursor) -> Reader
     }
 }
 
-// Entry by entry downward from the table's top, stopping at the first that breaks a rule.
+// Entry by entry downward from the table's top, stopping at the first that breaks a rule. Runs of entries that lead nowhere
+// else are passed at once.
 pub(crate) fn scan_entries(
     flags: &[[u8; 16]; 16],
     group: &[u8],
@@ -77,28 +79,38 @@ pub(crate) fn scan_entries(
     requires { ⌜ (Cut (now group) size entries) × Bounded (entryOffset size entries) opening ⌝ }
     ensures { λ r. ⌜ r ≡ scan size (entryOffset size entries) (entriesBelow (now (group .entry)) (size - informationLength) entries) 1 opening ⌝ }
 {
-    let follows = rules::follows();
     let limit = size - Group::INFORMATION_LENGTH - Group::ENTRY_LENGTH * entries;
-    let mut top = size - Group::INFORMATION_LENGTH;
     let mut left = entries;
-    let mut place: u32 = 1;
     let mut here = opening;
     let outcome = loop {
-        top = top - Group::ENTRY_LENGTH;
+        let run = singles::pass(group, size, entries, left, here);
+        let stand = here.stand;
+        let warned = here.warned;
+        here = Cursor {
+            stand,
+            warned,
+            sum: run.sum,
+            reached: run.reached,
+        };
+        left = run.left;
+        if singles::ends(group, size, entries, left, here) {
+            break ScanEnd::Reached(here);
+        }
         left = left - 1;
-        let entry = group::numbers::entry_at(group, top as usize);
+        let at = limit + Group::ENTRY_LENGTH * left;
+        let entry = group::numbers::entry_at(group, at as usize);
         let flag = entry.flag;
         let count = entry.count;
         let code = group::flags::code_in(flags, flag);
+        let follows = rules::follows();
         let fault = rules::entry_fault(&follows, size, limit, left == 0, here, flag, code, count);
         if fault != 0 {
-            break ScanEnd::Refused(fault, place, here);
+            break ScanEnd::Refused(fault, entries - left, here);
         }
         here = rules::advance(here, flag, code, count);
         if left == 0 {
             break ScanEnd::Reached(here);
         }
-        place = place + 1;
     };
     outcome
 }

@@ -1,8 +1,11 @@
 -- `Reader::judge_in` meets its contract: the refusal before the scan, or what the scan gives. Assumes nothing.
 use borrow.Author.Needs.{needs}
 use mathlib.Core.Path.{_≡_, sym, ap, _∙_}
+use Prim.Native.Nat.{ℕ, _-_}
 use native.Mathlib.Omega.{arith}
 use lib.ListN.{length}
+use Rattle.group.specs.Sizes.{informationLength, entryOffset}
+use Rattle.group.specs.Entries.{entriesBelow}
 use Rattle.reader.specs.declared.ScanEnd.{ScanEnd}
 use Rattle.reader.specs.declared.ReadAnswer.the-variants as answer
 use Rattle.reader.specs.Scan.{scan}
@@ -20,8 +23,12 @@ scanned : (c : tie.After-scan-entries) (end : ScanEnd) → c .scan-entries .resu
     → answered (c .before .before .before .before .before .args .self) end ≡ readCall (c .before .before .before .before .before .args .self) (c .before .before .before .before .before .args .group .now) (c .before .before .before .before .before .args .number) (c .before .before .before .before .before .args .entries) (c .before .before .before .before .before .args .room)
 unfolding groupScan
 scanned c end e =
+    let a = c .before .before .before .before .before .args in
     read-scanned _ _ _ _ _ (sym (c .before .before .before .refusal .ensures) ∙ c .before .before .if1 .left) end
-    (ap (scan _ _ _ 1) (sym (c .before .opening .ensures)) ∙ sym (c .scan-entries .ensures) ∙ e)
+    (ap (scan _ _ _ 1) (sym (c .before .opening .ensures))
+    ∙ sym (ap (λ (size : ℕ). scan size (entryOffset size (a .entries)) (entriesBelow (a .group .now) (size - informationLength) (a .entries)) 1 (c .before .opening .result)) (open-to (c .before .before) .long))
+    ∙ sym (c .scan-entries .ensures)
+    ∙ e)
 
 pub judge-in-spec : {M : Type 1} → statement M
 judge-in-spec =
@@ -30,7 +37,8 @@ judge-in-spec =
     (λ c κs. search needs)
     (λ c. read-refused _ _ _ _ _ _ (c .before .refusal .ensures) (c .if1 .taken))
     (λ c κs. search needs)
-    (λ c κs. let r = open-to (c .before) in (c .before .before .before .before .pre, (cut r, rw (c .opening .ensures) (begins r))))
+    (λ c. let r = open-to (c .before) in omega (arith, r .long, r .run .most))
+    (λ c κs. let r = open-to (c .before) in (c .before .before .before .before .pre, (rw (r .long) (cut r), rw (r .long, c .opening .ensures) (begins r))))
     (λ c. search needs)
     (λ c. search needs)
     (λ c κs. let r = open-to (c .before .before .before .before .before) in omega (arith, r .next, r .numbered))

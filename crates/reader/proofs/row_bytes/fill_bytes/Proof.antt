@@ -8,7 +8,6 @@ use Rattle.group.specs.Sizes.{entryOffset}
 use Rattle.group.specs.Store.{put}
 use Rattle.group.specs.Flags.{meaningOf}
 use Rattle.reader.specs.Answer.{inBytes}
-use Rattle.reader.proofs.Scans.{row-kind}
 use Rattle.reader.proofs.Filling.{Filled, filled-turn, filled-reach, filled-done}
 use Rattle.reader.proofs.RowBytes.{put-more}
 use Rattle.reader.proofs.row_bytes.fill_bytes.Statement.{statement}
@@ -41,20 +40,18 @@ none : inBytes [] ≡ []
 unfolding inBytes
 none = refl
 
-reach : (c : tie.After-code-in Inv-loop μ-loop) → c .before .before .before .loop .reached ≤ entryOffset (c .before .before .before .before .before .before .args .size) (c .before .before .before .before .before .before .args .entries)
+reach : (c : tie.After-put-row-arg Inv-loop μ-loop) → c .before .before .loop .reached ≤ entryOffset (c .before .before .before .before .before .args .size) (c .before .before .before .before .before .args .entries)
 reach c =
-    let l = c .before .before .before .loop in
-    filled-reach _ _ _ _ (l .rows) (l .top) (l .left) (l .reached) (l .i) (c .before .entry-at .result) (c .before .before .loop-test .taken) (c .before .entry-at .ensures .0) (l .inv .1)
+    let l = c .before .before .loop in
+    filled-reach _ _ _ _ (l .rows) (l .top) (l .left) (l .reached) (l .i) _ (c .before .loop-test .taken) refl (l .inv .1)
 
 loop-again : tie.Need-loop-again Inv-loop μ-loop
 loop-again c =
-    let p = c .before .before .before .put-row in
-    let d = c .before .before .before .before .before in
-    let l = d .before .before .before .loop in
-    let t = d .before .before .loop-test .taken in
-    let x = d .before .entry-at in (
-      rw (p .kept .0) (onto (l .inv .0) t),
-      filled-turn inBytes 12 _ _ _ _ (l .rows) _ (l .top) (l .left) (l .reached) (l .i) (x .result) _ _ t (x .ensures .0) (row-kind (meaningOf (x .result .flag)) (d .code-in .ensures)) (c .reached-by .ensures) (p .kept .0) (λ more. twelve (l .rows) _ (l .i) _ _ _ more (p .ensures)) (l .inv .1),
+    let p = c .before .before .put-row in
+    let l = c .before .before .before .before .before .loop in
+    let t = c .before .before .before .before .loop-test .taken in (
+      rw (p .kept .1 .1 .1 .1 .0) (onto (l .inv .0) t),
+      filled-turn inBytes 12 _ _ _ _ (l .rows) _ (l .top) (l .left) (l .reached) (l .i) _ _ _ t refl refl (p .ensures .0) (p .kept .1 .1 .1 .1 .0) (λ more. twelve (l .rows) _ (l .i) _ _ _ more (p .ensures .1)) (l .inv .1),
     )
 
 pub fill-bytes-spec : {M : Type 1} → statement M
@@ -68,11 +65,7 @@ fill-bytes-spec =
     (λ c. omega arith)
     (λ c. omega arith)
     (λ c. omega arith)
-    (λ c κs. omega arith)
-    (λ c κs. c .before .before .before .before .before .pre .0)
-    (λ c. omega (arith, c .before .code-in .ensures .small))
-    (λ c κs. omega arith)
-    (λ c κs. let d = c .before .before .before .before in (d .code-in .ensures, (omega (arith, reach d), omega (arith, d .before .entry-at .ensures .1))))
+    (λ c κs. (c .before .before .before .before .before .pre .0, ((omega arith, omega arith), omega (arith, reach c))))
     (λ c. omega arith)
     (λ c. omega arith)
     loop-again

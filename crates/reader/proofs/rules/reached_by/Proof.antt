@@ -1,8 +1,8 @@
--- `reached_by` meets its contract. Assumes nothing.
+-- `reached_by` meets its contract: the count, or nothing of it. Assumes nothing.
 use borrow.Author.Needs.{needs}
-use mathlib.Core.Path.{refl}
-use Rattle.group.specs.Flags.{b4Of}
-use Rattle.group.proofs.FlagLaws.{meaning-by-code, meaning-unknown}
+use native.Mathlib.Omega.{arith}
+use Rattle.group.specs.Flags.{meaningOf}
+use Rattle.reader.proofs.Scans.{share-reaches, share-small}
 use Rattle.reader.proofs.rules.reached_by.Statement.{statement}
 use Rattle.reader.proofs.rules.reached_by.Tie as tie
 
@@ -10,7 +10,7 @@ pub reached-by-spec : {M : Type 1} → statement M
 reached-by-spec =
     tie.close
     (tie.spec
-    (λ c. rw (meaning-unknown _ _ (c .before .pre .0) (c .if1 .taken)))
-    (λ c κs. search needs)
-    (λ c κs. search needs)
-    (λ c. rw (meaning-by-code _ _ (c .before .kind-of .result) (b4Of (c .before .before .before .args .flag)) (c .before .before .before .pre .0) (c .before .kind-of .ensures) refl) (c .reached-after .ensures)))
+    (λ c κs. c .pre .0 .small)
+    (λ c. omega (arith, share-small (c .before .args .count) (c .share .result) _ (c .share .ensures)))
+    (λ c. omega (arith, share-small (c .before .args .count) (c .share .result) _ (c .share .ensures)))
+    (λ c. share-reaches (meaningOf (c .before .args .flag)) _ _ (c .before .pre .0) (c .share .ensures)))

@@ -9,62 +9,64 @@ use Rattle.group.specs.Entries.{entriesBelow}
 use Rattle.group.specs.Flags.{meaningOf}
 use Rattle.reader.specs.declared.Cursor.{Cursor}
 use Rattle.reader.specs.declared.ScanEnd.{ScanEnd}
-use Rattle.reader.specs.declared.ScanEnd.the-variants.{Reached}
+use Rattle.reader.specs.declared.ScanEnd.the-variants.{Reached, Refused}
 use Rattle.reader.specs.Scan.{scan, after, onward}
-use Rattle.reader.specs.Bounds.{Bounded}
+use Rattle.reader.specs.Bounds.{Bounded, scanLeft, movedTo}
 use Rattle.reader.proofs.Faults.{stays}
-use Rattle.reader.proofs.Scans.{turn, ended, stops, goes-on}
+use Rattle.reader.proofs.Scans.{left-turn, all-left, none-left, stops, goes-on}
 use Rattle.reader.proofs.scan.scan_entries.Statement.{statement}
 use Rattle.reader.proofs.scan.scan_entries.Tie as tie
 
--- Where the loop stands among the numbers.
-record Counts (size entries top left place : ℕ) : Type 0 where
+record Held (group : List ℕ) (size entries : ℕ) (first here : Cursor) (left : ℕ) : Type 0 where
   some : 1 ≤ left
-  stands : entryOffset size entries + 4 * left ≡ top
-  within : top + 32 ≤ size
-  counted : place + left ≡ entries + 1
-
-record Held (group : List ℕ) (size entries : ℕ) (first here : Cursor) (top left place : ℕ) : Type 0 where
-  counts : Counts size entries top left place
+  most : left ≤ entries
   bounded : Bounded (entryOffset size entries) here
-  same : scan size (entryOffset size entries) (entriesBelow group top left) place here ≡ scan size (entryOffset size entries) (entriesBelow group (size - 32) entries) 1 first
-
-onto : {size entries top left place : ℕ} → Counts size entries top left place → (left - 1 ≡ 0 → ⊥) → Counts size entries (top - 4) (left - 1) (place + 1)
-onto n h = omega arith
+  same : scanLeft size entries group left here ≡ scan size (entryOffset size entries) (entriesBelow group (size - 32) entries) 1 first
 
 abbrev Inv-loop : tie.InvT-loop
-Inv-loop flags group size entries follows limit top₀ left₀ place₀ here₀ top left place here = Held group size entries here₀ here top left place
+Inv-loop flags group size entries limit left₀ here₀ left here = Held group size entries here₀ here left
 
 abbrev μ-loop : tie.MeasureT-loop
-μ-loop flags group size entries follows limit top₀ left₀ place₀ here₀ top left place here = left
+μ-loop flags group size entries limit left₀ here₀ left here = left
+
+-- After a run the scan gives what it gave before it.
+ran : (c : tie.After-pass Inv-loop μ-loop)
+    → scanLeft (c .before .before .before .args .size) (c .before .before .before .args .entries) (c .before .before .before .args .group .now) (c .pass .result .left) (movedTo (c .before .loop .here) (c .pass .result .sum) (c .pass .result .reached))
+    ≡ scan (c .before .before .before .args .size) (entryOffset (c .before .before .before .args .size) (c .before .before .before .args .entries)) (entriesBelow (c .before .before .before .args .group .now) (c .before .before .before .args .size - 32) (c .before .before .before .args .entries)) 1 (c .before .before .before .args .opening)
+ran c = c .pass .ensures .1 .1 ∙ c .before .loop .inv .same
 
 -- The scan from an entry on, by the number of its fault.
 from : (c : tie.After-entry-fault Inv-loop μ-loop) (rest : ScanEnd)
-    → rest ≡ onward (c .entry-fault .result) (c .before .before .before .before .loop .place) (c .before .before .before .before .loop .here)
-    (scan (c .before .before .before .before .before .before .before .args .size) (entryOffset (c .before .before .before .before .before .before .before .args .size) (c .before .before .before .before .before .before .before .args .entries)) (entriesBelow (c .before .before .before .before .before .before .before .args .group .now) (c .before .before .before .before .loop .top - 4) (c .before .before .before .before .loop .left - 1)) (c .before .before .before .before .loop .place + 1)
-    (after (c .before .before .before .before .loop .here) (meaningOf (c .before .before .before .entry-at .result .flag)) (c .before .before .before .entry-at .result .count)))
-    → rest ≡ scan (c .before .before .before .before .before .before .before .args .size) (entryOffset (c .before .before .before .before .before .before .before .args .size) (c .before .before .before .before .before .before .before .args .entries)) (entriesBelow (c .before .before .before .before .before .before .before .args .group .now) (c .before .before .before .before .before .before .before .args .size - 32) (c .before .before .before .before .before .before .before .args .entries)) 1 (c .before .before .before .before .before .before .before .args .opening)
+    → (let p = c .before .before .before .before .before .before .before in let a = p .before .before .before .args in let h = movedTo (p .before .loop .here) (p .pass .result .sum) (p .pass .result .reached) in
+    rest ≡ onward (c .entry-fault .result) (a .entries + 1 - p .pass .result .left) h (scanLeft (a .size) (a .entries) (a .group .now) (p .pass .result .left - 1) (after h (meaningOf (c .before .before .before .before .entry-at .result .flag)) (c .before .before .before .before .entry-at .result .count))))
+    → (let a = c .before .before .before .before .before .before .before .before .before .before .args in rest ≡ scan (a .size) (entryOffset (a .size) (a .entries)) (entriesBelow (a .group .now) (a .size - 32) (a .entries)) 1 (a .opening))
 from c rest e =
-    let l = c .before .before .before .before .loop in
-    let x = c .before .before .before .entry-at in
-    e ∙ sym (turn _ _ _ (l .top) (l .left) (l .place) (l .here) (x .result) (c .entry-fault .result) (l .inv .counts .some) (x .ensures .0) (c .entry-fault .ensures))
-    ∙ l .inv .same
+    let p = c .before .before .before .before .before .before .before in
+    let x = c .before .before .before .before .entry-at in
+    e ∙ sym (left-turn _ _ _ (p .pass .result .left) _ (x .result) (c .entry-fault .result) (p .pass .ensures .0 .0) (omega (arith, p .pass .ensures .0 .1, p .before .loop .inv .most)) (x .ensures .0) (c .entry-fault .ensures))
+    ∙ ran p
 
 loop-again : tie.Need-loop-again Inv-loop μ-loop
 loop-again c =
     let n = c .before .before .before in
-    let l = n .before .before .before .before .loop in
+    let p = n .before .before .before .before .before .before .before in
     record {
-      counts = onto (l .inv .counts) (c .if2 .left);
-      bounded = rw (c .before .advance .ensures) (stays _ _ _ _ _ _ (l .inv .bounded) (sym (n .entry-fault .ensures) ∙ c .before .before .if1 .left));
-      same = from n _ (ap (scan _ _ _ _) (c .before .advance .ensures) ∙ goes-on _ _ _ _ (c .before .before .if1 .left));
+      some = omega (arith, c .if3 .left);
+      most = omega (arith, p .pass .ensures .0 .1, p .before .loop .inv .most);
+      bounded = rw (c .before .advance .ensures) (stays _ _ _ _ _ _ (p .pass .ensures .1 .0) (sym (n .entry-fault .ensures) ∙ c .before .before .if2 .left));
+      same = from n _ (ap (scanLeft _ _ _ _) (c .before .advance .ensures) ∙ goes-on _ _ _ _ (c .before .before .if2 .left));
     }
 
-ends : tie.Need-returns-2 Inv-loop μ-loop
+refused : tie.Need-returns-2 Inv-loop μ-loop
+refused c =
+    let p = c .before .before .before .before .before .before .before .before in
+    let place : p .before .before .before .args .entries - (p .pass .result .left - 1) ≡ p .before .before .before .args .entries + 1 - p .pass .result .left = omega (arith, p .pass .ensures .0, p .before .loop .inv .most) in
+    from (c .before) _ (rw place (stops _ _ _ _ (c .if2 .taken)))
+
+ends : tie.Need-returns-3 Inv-loop μ-loop
 ends c =
     let n = c .before .before .before in
-    let l = n .before .before .before .before .loop in
-    from n _ (ap Reached (c .before .advance .ensures) ∙ ended _ _ _ (l .top - 4) (l .left - 1) (l .place + 1) _ (c .if2 .taken) ∙ goes-on _ _ _ _ (c .before .before .if1 .left))
+    from n _ (ap Reached (c .before .advance .ensures) ∙ none-left _ _ _ _ _ (c .if3 .taken) ∙ goes-on _ _ _ _ (c .before .before .if2 .left))
 
 pub scan-entries-spec : {M : Type 1} → statement M
 scan-entries-spec =
@@ -72,25 +74,26 @@ scan-entries-spec =
     (tie.spec
     Inv-loop
     μ-loop
-    (λ c κs. search needs)
     (λ c. omega arith)
     (λ c. omega arith)
     (λ c. omega arith)
+    (λ c. record { some = omega arith; most = omega arith; bounded = c .before .pre .1 .1; same = all-left _ _ _ _ (omega arith) })
+    (λ c κs. ((c .before .before .pre .1 .0, c .loop .inv .bounded), (c .loop .inv .some, c .loop .inv .most)))
+    (λ c κs. (c .before .before .before .pre .1 .0, c .pass .ensures .1 .0))
     (λ c. omega arith)
-    (λ c. record { counts = omega arith; bounded = c .before .before .pre .1 .1; same = refl })
     (λ c. omega arith)
     (λ c. omega arith)
     (λ c. omega arith)
     (λ c κs. omega arith)
-    (λ c κs. c .before .before .before .before .pre .0)
-    (λ c κs.
-    let l = c .before .before .before .loop in
-    ((c .before .before .before .before .follows .ensures, c .before .code-in .ensures), (l .inv .bounded, (omega arith, (omega arith, omega (arith, c .before .before .entry-at .ensures .1))))))
-    (λ c κs.
-    let b = c .before .before .before .before .before .loop .inv .bounded in
-    (c .before .before .before .code-in .ensures, (b .sum, (omega (arith, b .reached), omega (arith, c .before .before .before .before .entry-at .ensures .1)))))
+    (λ c κs. c .before .before .before .before .before .before .pre .0)
+    (λ c κs. search needs)
+    (λ c κs. ((c .before .follows .ensures, c .before .before .code-in .ensures), (c .before .before .before .before .before .before .pass .ensures .1 .0, (omega arith, (omega arith, omega (arith, c .before .before .before .entry-at .ensures .1))))))
     (λ c. omega arith)
+    (λ c κs.
+    let b = c .before .before .before .before .before .before .before .before .pass .ensures .1 .0 in
+    (c .before .before .before .before .code-in .ensures, (b .sum, (omega (arith, b .reached), omega (arith, c .before .before .before .before .before .entry-at .ensures .1)))))
     (λ c. omega arith)
     loop-again
-    (λ c. from (c .before) _ (stops _ _ _ _ (c .if1 .taken)))
+    (λ c. c .before .ends .ensures (c .if1 .taken) ∙ ran (c .before .before))
+    refused
     ends)
