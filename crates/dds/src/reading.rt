@@ -3,6 +3,8 @@ ghost use mathlib.Core.Path.{_≡_};
 ghost use mathlib.Core.List.{List, []};
 ghost use Prim.Native.Nat.{ℕ};
 ghost use lib.ListN.{length};
+ghost use Rattle.group.specs.Numbers.{numberAt};
+ghost use Rattle.reader.specs.declared.ReadAnswer.the-variants.{Accepted};
 ghost use Rattle.reader.specs.Answer.{told};
 ghost use Rattle.dds.specs.Slices.{readerLength, answerLength};
 ghost use Rattle.dds.specs.Calls.{outcome, answered, readState, ddsReaderStart, ddsRead};
@@ -34,14 +36,15 @@ pub extern "C" fn dds_reader_start(
     }
 }
 
-// What a read leaves in the state and the answer, and what it returns.
+// What a read leaves in the state and the answer, and what it returns. The size stands in the state already.
 fn finish(state: &mut [u8], answer: &mut [u8], done: ReadAnswer) -> u32
     requires { ⌜ (length (now state) ≡ readerLength) × (length (now answer) ≡ answerLength) ⌝ }
+    requires { ⌜ ((reader : Reader) → done ≡ Accepted reader → reader .size ≡ numberAt 4 (now state) 0) ⌝ }
     ensures { λ r. ⌜ ((lent : List ℕ) → outcome r (now (state .exit)) lent (now (answer .exit)) ≡ answered (told done) (readState done (now (state .entry))) lent) ⌝ }
 {
     match done {
         ReadAnswer::Accepted(reader) => {
-            slices::put_reader(state, reader);
+            slices::put_next(state, reader);
             slices::put_answer(answer, 0, 0, 0, 0, 0, 0)
         }
         ReadAnswer::Refused {

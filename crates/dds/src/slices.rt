@@ -5,7 +5,7 @@ ghost use mathlib.Core.List.{[], _∷_};
 ghost use Prim.Native.Nat.{_+_, _≤_};
 ghost use lib.ListN.{length};
 ghost use Rattle.group.specs.Store.{put};
-ghost use Rattle.group.specs.Numbers.{bytesOf};
+ghost use Rattle.group.specs.Numbers.{numberAt, bytesOf};
 ghost use Rattle.reader.specs.Answer.{inBytes};
 ghost use Rattle.dds.specs.Slices.{readerLength, writerLength, answerLength, lengthsKept, phaseNumber, phaseOf, b4Number, b4Meant};
 ghost use Rattle.dds.specs.Slices.{readerOf, readerBytes, readerMeant, writerOf, writerBytes, writerMeant};
@@ -125,17 +125,25 @@ fn keep(slice: &mut [u8], at: usize, n: u32)
     }
 }
 
+// The three numbers that a group changes, in a slice that has the size already.
+pub(crate) fn put_next(slice: &mut [u8], r: Reader)
+    requires { ⌜ (length (now slice) ≡ readerLength) × (r .size ≡ numberAt 4 (now slice) 0) ⌝ }
+    ensures { λ _. ⌜ now (slice .exit) ≡ readerBytes r ⌝ }
+{
+    let phase = r.phase;
+    let phase = phase_number(phase);
+    keep(slice, 4, r.next);
+    keep(slice, 8, phase);
+    keep(slice, 12, r.sum);
+}
+
 // The state's four numbers, over all that stood in the slice.
 pub(crate) fn put_reader(slice: &mut [u8], r: Reader)
     requires { ⌜ length (now slice) ≡ readerLength ⌝ }
     ensures { λ _. ⌜ now (slice .exit) ≡ readerBytes r ⌝ }
 {
-    let phase = r.phase;
-    let phase = phase_number(phase);
     keep(slice, 0, r.size);
-    keep(slice, 4, r.next);
-    keep(slice, 8, phase);
-    keep(slice, 12, r.sum);
+    put_next(slice, r);
 }
 
 // The state's eight numbers, over all that stood in the slice.

@@ -1,11 +1,13 @@
 -- `dds_read` meets its contract: a length, a meaning, or what the read answers. Assumes nothing.
 use borrow.Author.Needs.{needs}
-use mathlib.Core.Path.{_≡_, refl, _∙_}
+use mathlib.Core.Path.{_≡_, refl, sym, ap, _∙_}
 use mathlib.Core.Bool.{true}
 use lib.ListN.{length}
 use native.Mathlib.Omega.{arith}
 use Rattle.group.proofs.Tests.{fails, holds}
-use Rattle.dds.specs.Slices.{readerLength, answerLength, lengthsKept}
+use Rattle.reader.specs.declared.Reader.{Reader}
+use Rattle.reader.proofs.Accepted.{accepted}
+use Rattle.dds.specs.Slices.{readerLength, answerLength, lengthsKept, readerOf}
 use Rattle.dds.specs.Calls.{refusal, ddsRead}
 use Rattle.dds.proofs.Outcomes.{lengths, length-refused, length-passed, meaning-refused, meaning-passed, stored, read-left}
 use Rattle.dds.proofs.reading.dds_read.Statement.{statement}
@@ -36,6 +38,16 @@ answers c =
     c .before .before .before .before .finish .ensures _ ∙ read-left _ _ _ _ _ _ _ _ _ (c .before .before .before .before .before .before .before .before .before .before .before .reader-of .ensures) (r .ensures .0) (r .ensures .1)
     ∙ meaning-passed _ _ _ (holds (m .before .reader-meant .ensures) (m .if2 .left)) ∙ length-passed _ _ _ _ (kept (m .before .before .before))
 
+-- An accepted reader has the size that the state has.
+finish-requires : tie.Need-finish-requires
+unfolding readerOf
+finish-requires c κs =
+    let r = c .before .before .before .before .read-bytes in
+    let s = c .before .before .before .before .before .before .reader-of in (
+      long (c .before .before .before .before .before .before .before .before .before .before .before),
+      λ reader e. ap (λ (t : Reader). t .size) (accepted (s .result) reader _ _ _ _ (sym (r .ensures .0) ∙ e) .left) ∙ ap (λ (t : Reader). t .size) (s .ensures),
+    )
+
 pub dds-read-spec : {M : Type 1} → statement M
 dds-read-spec =
     tie.close
@@ -49,7 +61,7 @@ dds-read-spec =
     by-meaning
     (λ c κs. omega (arith, long (c .before .before .before .before) .0))
     (λ c κs. search needs)
-    (λ c κs. long (c .before .before .before .before .before .before .before .before .before .before .before))
+    finish-requires
     (λ c. search needs)
     (λ c. search needs)
     (λ c. search needs)

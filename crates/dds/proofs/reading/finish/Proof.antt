@@ -9,7 +9,7 @@ accepted : tie.Need-returns
 accepted c =
     let e = c .before .before .before .before .before .before .before .before .before .done .given in
     let p = c .before .before .put-answer .ensures in
-    λ lent. rw (e .1) (stored _ lent (p .0) (c .before .before .before .before .before .before .put-reader .ensures) (p .1))
+    λ lent. rw (e .1) (stored _ lent (p .0) (c .before .before .before .before .before .before .put-next .ensures) (p .1))
 
 refused : tie.Need-returns-2
 refused c =
@@ -22,7 +22,7 @@ finish-spec =
     tie.close
     (tie.spec
     (λ c. search needs)
-    (λ c κs. search needs)
+    (λ c κs. let p = c .before .before .before .before .before .before .pre in (search needs, p .1 _ (c .before .before .done .given .1)))
     (λ c κs. search needs)
     (λ c. search needs)
     (λ c κs. search needs)

@@ -1,27 +1,18 @@
--- `put_reader` meets its contract: four numbers, one after another. Assumes nothing.
+-- `put_reader` meets its contract: the size, and the other numbers behind it. Assumes nothing.
 use borrow.Author.Needs.{needs}
-use Rattle.dds.specs.Slices.{readerNumbers}
-use Rattle.dds.proofs.SliceLaws.{puts-whole}
+use mathlib.Core.Path.{_≡_, sym, ap, _∙_}
+use Prim.Native.Nat.{_<_, _^_}
+use native.Mathlib.Omega.{arith}
+use Rattle.group.proofs.NumberLaws.{number-put}
 use Rattle.dds.proofs.slices.put_reader.Statement.{statement}
 use Rattle.dds.proofs.slices.put_reader.Tie as tie
 
-returns : tie.Need-returns
-returns c =
-    let c4 = c .before .before in
-    let c3 = c4 .before .before .before .before in
-    let c2 = c3 .before .before .before .before in
-    let c1 = c2 .before .before .before .before in
-    let s = c1 .before .before .before .before in
-    rw (c4 .keep4 .ensures, c3 .keep3 .ensures, c2 .keep2 .ensures, c1 .keep .ensures, c1 .before .before .phase-number .ensures) (puts-whole (s .args .slice .now) (readerNumbers (s .args .r)) (s .pre))
+put-next-requires : tie.Need-put-next-requires
+put-next-requires c κs =
+    let k = c .before .before .before in
+    let a = k .before .before .before .args in
+    let small : a .r .size < 256 ^ 4 = omega arith in
+    (omega (arith, k .keep .kept .0), rw (k .keep .ensures) (sym (number-put 4 (a .slice .now) 0 (a .r .size) (omega arith) small)))
 
 pub put-reader-spec : {M : Type 1} → statement M
-put-reader-spec =
-    tie.close
-    (tie.spec
-    (λ c κs. search needs)
-    (λ c κs. search needs)
-    (λ c κs. search needs)
-    (λ c κs. search needs)
-    (λ c κs. search needs)
-    (λ c. search needs)
-    returns)
+put-reader-spec = tie.close (tie.spec (λ c κs. search needs) put-next-requires (λ c. search needs) (λ c. c .before .before .put-next .ensures))
