@@ -1,7 +1,7 @@
 /* The library beside plain C built with -O2 and with -O3, and writing beside memcpy of the same bytes, in one run, at
    the standard size. Best of many interleaved repetitions, as ratios. Three uses:
      bench time COUNTS ROUNDS  the table, best of so many; COUNTS is a file of lines "work who instructions"
-     bench count WORK WHO      one repetition, for callgrind; prints how many groups it read or records it wrote
+     bench count WORK WHO N    reads N groups, or writes N records, and measures nothing: for counting instructions
      bench works               the names of the works, each with the call it measures */
 
 #define _POSIX_C_SOURCE 199309L
@@ -67,10 +67,10 @@ static void wrong(const char *name, const char *what)
 /* ---- Reading */
 
 /* Lawful tables. Regular: four separators and a record, over and over. Mixed: one in five a record, at random. */
-static void make_images(const work *w)
+static void make_images(const work *w, uint32_t images_made)
 {
     uint32_t i, k, n = w->entries, part = n == 2 ? L - 40 : n == 100 ? 3000 : 1, room = L - 32 - 4 * n;
-    for (i = 0; i < IMAGES; i++) {
+    for (i = 0; i < images_made; i++) {
         uint32_t data = 0;
         memset(images[i], 0x41, L);
         for (k = 1; k <= n; k++) {
@@ -148,7 +148,7 @@ static long repetitions(const work *w)
 static void agree(const work *w)
 {
     int who;
-    if (w->entries) make_images(w);
+    if (w->entries) make_images(w, IMAGES);
     for (who = 0; who < WHO; who++) {
         if (w->entries) {
             memset(rows, 0xEE, sizeof rows);
@@ -222,25 +222,27 @@ int main(int argc, char **argv)
 {
     int i, who;
     uint32_t k;
-    source = malloc(DDS_RECORD_MOST);
+    source = calloc(DDS_RECORD_MOST, 1);
     if (!source) return 2;
-    for (k = 0; k < DDS_RECORD_MOST; k++) source[k] = (uint8_t)(k * 7);
     if (dds_reader_start(L, 1, reader_fresh, 16, answer, 24) || dds_writer_start(L, 1, writer_fresh, 32, answer, 24)) return 2;
     if (argc == 2 && !strcmp(argv[1], "works")) {
         for (i = 0; i < WORKS; i++) printf("%s %s\n", works[i].name, works[i].entries ? "read" : "record");
         return 0;
     }
-    if (argc == 4 && !strcmp(argv[1], "count")) {
+    if (argc == 5 && !strcmp(argv[1], "count")) {
         for (i = 0; i < WORKS; i++)
             for (who = 0; who < WHO; who++)
                 if (!strcmp(argv[2], works[i].name) && !strcmp(argv[3], who_name[who])) {
-                    if (works[i].entries) make_images(&works[i]);
-                    printf("%ld\n", works[i].entries ? read_once(&works[i], who, IMAGES) : write_once(&works[i], who, repetitions(&works[i]), 0));
+                    if (works[i].entries) {
+                        make_images(&works[i], IMAGES < atol(argv[4]) ? IMAGES : (uint32_t)atol(argv[4]));
+                        read_once(&works[i], who, atol(argv[4]));
+                    } else write_once(&works[i], who, atol(argv[4]), 0);
                     return 0;
                 }
         return 2;
     }
-    if (argc != 4 || strcmp(argv[1], "time")) { fprintf(stderr, "bench time COUNTS ROUNDS | bench count WORK WHO | bench works\n"); return 2; }
+    if (argc != 4 || strcmp(argv[1], "time")) { fprintf(stderr, "bench time COUNTS ROUNDS | bench count WORK WHO N | bench works\n"); return 2; }
+    for (k = 0; k < DDS_RECORD_MOST; k++) source[k] = (uint8_t)(k * 7);
     load_counts(argv[2]);
     for (i = 0; i < WORKS; i++) measure(i, works[i].length > BYTES ? atoi(argv[3]) / 3 + 1 : atoi(argv[3]));
     table();
