@@ -1,7 +1,8 @@
 /* The library beside plain C built with -O2 and with -O3, and writing beside memcpy of the same bytes, in one run, at
-   the standard size. Best of many interleaved repetitions, as ratios. Three uses:
+   the standard size. Best of many interleaved repetitions, as ratios. Four uses:
      bench time COUNTS ROUNDS  the table, best of so many; COUNTS is a file of lines "work who instructions"
-     bench count WORK WHO N    reads N groups, or writes N records, and measures nothing: for counting instructions
+     bench counts COUNTS       the instructions alone, where a time would say nothing
+     bench count WORK WHO N    reads N groups, 2 at most, or writes N records, and measures nothing: for counting them
      bench works               the names of the works, each with the call it measures */
 
 #define _POSIX_C_SOURCE 199309L
@@ -218,6 +219,16 @@ static void table(void)
     }
 }
 
+static void counts_table(void)
+{
+    int i;
+    printf("%-19s %10s %10s %10s | %6s %6s\n", "a group or record", "dds instr", "-O2 instr", "-O3 instr", "to -O2", "to -O3");
+    for (i = 0; i < WORKS; i++) {
+        double *c = counts[i];
+        printf("%-19s %10.0f %10.0f %10.0f | %6.2f %6.2f\n", works[i].name, c[0], c[1], c[2], c[0] / c[1], c[0] / c[2]);
+    }
+}
+
 int main(int argc, char **argv)
 {
     int i, who;
@@ -229,19 +240,25 @@ int main(int argc, char **argv)
         for (i = 0; i < WORKS; i++) printf("%s %s\n", works[i].name, works[i].entries ? "read" : "record");
         return 0;
     }
+    if (argc == 3 && !strcmp(argv[1], "counts")) {
+        load_counts(argv[2]);
+        for (i = 0; i < WORKS; i++) agree(&works[i]);
+        counts_table();
+        return 0;
+    }
     if (argc == 5 && !strcmp(argv[1], "count")) {
         for (i = 0; i < WORKS; i++)
             for (who = 0; who < WHO; who++)
                 if (!strcmp(argv[2], works[i].name) && !strcmp(argv[3], who_name[who])) {
                     if (works[i].entries) {
-                        make_images(&works[i], IMAGES < atol(argv[4]) ? IMAGES : (uint32_t)atol(argv[4]));
+                        make_images(&works[i], 2);
                         read_once(&works[i], who, atol(argv[4]));
                     } else write_once(&works[i], who, atol(argv[4]), 0);
                     return 0;
                 }
         return 2;
     }
-    if (argc != 4 || strcmp(argv[1], "time")) { fprintf(stderr, "bench time COUNTS ROUNDS | bench count WORK WHO N | bench works\n"); return 2; }
+    if (argc != 4 || strcmp(argv[1], "time")) { fprintf(stderr, "bench time COUNTS ROUNDS | bench counts COUNTS | bench count WORK WHO N | bench works\n"); return 2; }
     for (k = 0; k < DDS_RECORD_MOST; k++) source[k] = (uint8_t)(k * 7);
     load_counts(argv[2]);
     for (i = 0; i < WORKS; i++) measure(i, works[i].length > BYTES ? atoi(argv[3]) / 3 + 1 : atoi(argv[3]));
