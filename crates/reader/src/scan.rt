@@ -66,8 +66,8 @@ pub(crate) fn closing(reader: Reader, cursor: Cursor) -> Reader
     }
 }
 
-// Entry by entry downward from the table's top, stopping at the first that breaks a rule. Runs of entries that lead nowhere
-// else are passed at once.
+// Entry by entry downward from the table's top, stopping at the first that breaks a rule. Separators and entire records
+// between records are passed in runs.
 pub(crate) fn scan_entries(
     flags: &[[u8; 16]; 16],
     group: &[u8],
