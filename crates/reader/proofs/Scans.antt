@@ -87,7 +87,7 @@ free-is Inside e = absurd (omega arith)
 free-is AfterLast e = absurd (omega arith)
 free-is Owed e = absurd (omega arith)
 
--- One separator or entire record of a run, and the skip that ends a group.
+-- One separator or entire record of a stretch, and the skip that ends a group.
 pub single-turn : (group : List ℕ) (size n left : ℕ) (w : Bool) (sum reached bytes : ℕ) (e : Entry) → 2 ≤ left → left ≤ n
     → e ≡ entryAt group (entryOffset size n + 4 * (left - 1)) → Single w e bytes → e .count ≤ longestRecord → reached + bytes ≤ entryOffset size n
     → scanLeft size n group (left - 1) (freeAt w 0 (reached + bytes)) ≡ scanLeft size n group left (freeAt w sum reached)

@@ -1,5 +1,5 @@
 -- Serves contracts and proofs only: how large numbers are where the code adds them, the tables that the code is lent, and the
--- scan from where a run of separators and entire records leads.
+-- scan from where a stretch of separators and entire records leads.
 -- Assumes nothing.
 use Prim.Native.Nat.{ℕ, _+_, _*_, _-_, _≤_}
 use mathlib.Core.Path.{_≡_}

@@ -21,7 +21,7 @@ const FOLLOWS: [[bool; 8]; 5] = [
     [false, true, false, false, false, false, false, false],
 ];
 
-// The table, to be bound once for a group and lent: a constant is built anew at each use.
+// The table, to be bound and lent. A constant is built anew at each use, so it is bound only where an entry needs it.
 pub(crate) fn follows() -> [[bool; 8]; 5]
     ensures { λ r. ⌜ r ≡ followTable ⌝ }
 {

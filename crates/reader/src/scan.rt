@@ -67,7 +67,7 @@ pub(crate) fn closing(reader: Reader, cursor: Cursor) -> Reader
 }
 
 // Entry by entry downward from the table's top, stopping at the first that breaks a rule. Separators and entire records
-// between records are passed in runs.
+// between records are passed in stretches.
 pub(crate) fn scan_entries(
     flags: &[[u8; 16]; 16],
     group: &[u8],
@@ -83,16 +83,16 @@ pub(crate) fn scan_entries(
     let mut left = entries;
     let mut here = opening;
     let outcome = loop {
-        let run = singles::pass(group, size, entries, left, here);
+        let stretch = singles::pass(group, size, entries, left, here);
         let stand = here.stand;
         let warned = here.warned;
         here = Cursor {
             stand,
             warned,
-            sum: run.sum,
-            reached: run.reached,
+            sum: stretch.sum,
+            reached: stretch.reached,
         };
-        left = run.left;
+        left = stretch.left;
         if singles::ends(group, size, entries, left, here) {
             break ScanEnd::Reached(here);
         }

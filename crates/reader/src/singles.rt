@@ -16,8 +16,8 @@ use crate::rules;
 use group::Group;
 use group::Kind;
 
-// How far a run of such entries led: how many entries are left, the sum of parts and the data offset reached.
-pub struct Run {
+// How far a stretch of such entries led: how many entries are left, the sum of parts and the data offset reached.
+pub struct Stretch {
     pub left: u32,
     pub sum: u32,
     pub reached: u32,
@@ -47,7 +47,7 @@ fn single_data(warned: bool, room: u32, word: u32) -> u32
 }
 
 // Passes separators and entire records up to the first entry that is neither or breaks a rule, and the last entry at most.
-pub(crate) fn pass(group: &[u8], size: u32, entries: u32, left: u32, here: Cursor) -> Run
+pub(crate) fn pass(group: &[u8], size: u32, entries: u32, left: u32, here: Cursor) -> Stretch
     requires { ⌜ (Cut (now group) size entries) × Bounded (entryOffset size entries) here ⌝ }
     requires { ⌜ (1 ≤ left) × (left ≤ entries) ⌝ }
     ensures { λ r. ⌜ (1 ≤ r .left) × (r .left ≤ left) ⌝ }
@@ -61,7 +61,7 @@ pub(crate) fn pass(group: &[u8], size: u32, entries: u32, left: u32, here: Curso
     let mut reached = here.reached;
     let stand = here.stand;
     if rules::stand_number(stand) != 0 {
-        return Run { left, sum, reached };
+        return Stretch { left, sum, reached };
     }
     while 1 < left {
         let at = limit + Group::ENTRY_LENGTH * (left - 1);
@@ -74,7 +74,7 @@ pub(crate) fn pass(group: &[u8], size: u32, entries: u32, left: u32, here: Curso
         sum = 0;
         left = left - 1;
     }
-    Run { left, sum, reached }
+    Stretch { left, sum, reached }
 }
 
 // Whether a skip may follow.

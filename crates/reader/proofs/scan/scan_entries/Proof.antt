@@ -29,11 +29,11 @@ Inv-loop flags group size entries limit left₀ here₀ left here = Held group s
 abbrev μ-loop : tie.MeasureT-loop
 μ-loop flags group size entries limit left₀ here₀ left here = left
 
--- After a run the scan gives what it gave before it.
-ran : (c : tie.After-pass Inv-loop μ-loop)
+-- After a stretch the scan gives what it gave before it.
+passed : (c : tie.After-pass Inv-loop μ-loop)
     → scanLeft (c .before .before .before .args .size) (c .before .before .before .args .entries) (c .before .before .before .args .group .now) (c .pass .result .left) (movedTo (c .before .loop .here) (c .pass .result .sum) (c .pass .result .reached))
     ≡ scan (c .before .before .before .args .size) (entryOffset (c .before .before .before .args .size) (c .before .before .before .args .entries)) (entriesBelow (c .before .before .before .args .group .now) (c .before .before .before .args .size - 32) (c .before .before .before .args .entries)) 1 (c .before .before .before .args .opening)
-ran c = c .pass .ensures .1 .1 ∙ c .before .loop .inv .same
+passed c = c .pass .ensures .1 .1 ∙ c .before .loop .inv .same
 
 -- The scan from an entry on, by the number of its fault.
 from : (c : tie.After-entry-fault Inv-loop μ-loop) (rest : ScanEnd)
@@ -44,7 +44,7 @@ from c rest e =
     let p = c .before .before .before .before .before .before .before in
     let x = c .before .before .before .before .entry-at in
     e ∙ sym (left-turn _ _ _ (p .pass .result .left) _ (x .result) (c .entry-fault .result) (p .pass .ensures .0 .0) (omega (arith, p .pass .ensures .0 .1, p .before .loop .inv .most)) (x .ensures .0) (c .entry-fault .ensures))
-    ∙ ran p
+    ∙ passed p
 
 loop-again : tie.Need-loop-again Inv-loop μ-loop
 loop-again c =
@@ -94,6 +94,6 @@ scan-entries-spec =
     (c .before .before .before .before .code-in .ensures, (b .sum, (omega (arith, b .reached), omega (arith, c .before .before .before .before .before .entry-at .ensures .1)))))
     (λ c. omega arith)
     loop-again
-    (λ c. c .before .ends .ensures (c .if1 .taken) ∙ ran (c .before .before))
+    (λ c. c .before .ends .ensures (c .if1 .taken) ∙ passed (c .before .before))
     refused
     ends)

@@ -27,7 +27,7 @@ Inv-loop group size entries given limit warned left₀ sum₀ reached₀ left su
 abbrev μ-loop : tie.MeasureT-loop
 μ-loop group size entries given limit warned left₀ sum₀ reached₀ left sum reached = left
 
--- The run stands between records.
+-- The stretch stands between records.
 free : (c : tie.Else1 Inv-loop μ-loop) → c .before .before .before .args .here .stand ≡ Free
 free c = free-is _ (sym (c .before .stand-number .ensures) ∙ c .if1 .left)
 
