@@ -1,0 +1,5 @@
+-- The laws that the proofs of this crate share, and its theorems.
+pub mod HeaderLaws
+pub mod Turns
+pub mod BlockLaws
+pub mod Judged

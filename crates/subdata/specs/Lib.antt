@@ -1,0 +1,7 @@
+-- What a reader of this crate must believe, in the order of source document 003, 9.4.9.
+pub mod Sizes
+pub mod Header
+pub mod Blocks
+pub mod Items
+pub mod Answer
+pub mod Bounds

@@ -1,0 +1,103 @@
+// Makes and reads the 16 Sub Data Blocks of a track: source document 003, 9.4.9, and change request 2026-01. Both calls work
+// on lent byte slices. Neither requires anything: what may not be is refused with a number and a block.
+mod blocks;
+mod filling;
+mod header;
+mod items;
+
+ghost use mathlib.Core.Path.{_≡_};
+ghost use lib.ListN.{length};
+ghost use Rattle.subdata.specs.Blocks.{trackOf, packsOf, itemsOf};
+ghost use Rattle.subdata.specs.Items.{numbersOf};
+ghost use Rattle.subdata.specs.Answer.{makeCall, readCall, left};
+
+// A track: its tape areas (an Area ID without its first bit), its blocks and places, and the lengths of what is lent for it.
+pub struct Track {}
+
+// What making and reading answer.
+pub enum TrackAnswer {
+    Accepted,
+    Refused { number: u32, place: u32 },
+}
+
+impl Track {
+    pub const REFERENCE_AREA: u32 = 1;
+
+    pub const SYSTEM_AREA: u32 = 2;
+
+    pub const DATA_AREA: u32 = 4;
+
+    pub const EOD_AREA: u32 = 5;
+
+    pub const BLOCKS: u8 = 16;
+
+    pub const PLACES: usize = 64;
+
+    pub const ITEM_LENGTH: usize = 8;
+
+    pub const BLOCK_LENGTH: usize = 35;
+
+    pub const LENGTH: usize = 560;
+
+    pub const PACKS_LENGTH: usize = 8;
+
+    pub const ITEMS_LENGTH: usize = 512;
+
+    pub const NUMBERS_LENGTH: usize = 256;
+
+    // A track from its Area ID, Pack IDs and items, and the Item number of each place.
+    pub fn make(
+        area: u32,
+        frame: u32,
+        packs: &[u8],
+        items: &[u8],
+        track: &mut [u8],
+        numbers: &mut [u8],
+    ) -> TrackAnswer
+        ensures answer { λ r. ⌜ r ≡ makeCall area (now (packs .entry)) (length (now (items .entry))) (length (now (track .entry))) (length (now (numbers .entry))) ⌝ }
+        ensures track { λ r. ⌜ now (track .exit) ≡ left r (trackOf area (now (packs .entry)) (now (items .entry))) (now (track .entry)) ⌝ }
+        ensures numbers { λ r. ⌜ now (numbers .exit) ≡ left r (numbersOf area frame) (now (numbers .entry)) ⌝ }
+    {
+        let answer = blocks::judge_making(area, packs, items.len(), track.len(), numbers.len());
+        match answer {
+            TrackAnswer::Accepted => {
+                filling::put_track(track, area, packs, items);
+                items::put_numbers(numbers, area, frame);
+                answer
+            }
+            TrackAnswer::Refused {
+                number: _,
+                place: _,
+            } => answer,
+        }
+    }
+
+    // A track's Pack IDs and what stands at its places, and the Item number of each place.
+    pub fn read(
+        area: u32,
+        frame: u32,
+        track: &[u8],
+        packs: &mut [u8],
+        items: &mut [u8],
+        numbers: &mut [u8],
+    ) -> TrackAnswer
+        ensures answer { λ r. ⌜ r ≡ readCall area (now (track .entry)) (length (now (packs .entry))) (length (now (items .entry))) (length (now (numbers .entry))) ⌝ }
+        ensures packs { λ r. ⌜ now (packs .exit) ≡ left r (packsOf (now (track .entry))) (now (packs .entry)) ⌝ }
+        ensures items { λ r. ⌜ now (items .exit) ≡ left r (itemsOf (now (track .entry))) (now (items .entry)) ⌝ }
+        ensures numbers { λ r. ⌜ now (numbers .exit) ≡ left r (numbersOf area frame) (now (numbers .entry)) ⌝ }
+    {
+        let answer = blocks::judge_reading(area, track, packs.len(), items.len(), numbers.len());
+        match answer {
+            TrackAnswer::Accepted => {
+                filling::put_packs(packs, track);
+                filling::put_items(items, track);
+                items::put_numbers(numbers, area, frame);
+                answer
+            }
+            TrackAnswer::Refused {
+                number: _,
+                place: _,
+            } => answer,
+        }
+    }
+}
