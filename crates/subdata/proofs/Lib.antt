@@ -3,3 +3,5 @@ pub mod HeaderLaws
 pub mod Turns
 pub mod BlockLaws
 pub mod Judged
+pub mod OneBlock
+pub mod Settled

@@ -1,16 +1,16 @@
 -- Source document 003, 9.4.9.2: the Data Part of a Sub Data Block, a whole block, and a track of them.
 -- Assumes nothing.
-use Prim.Native.Nat.{ℕ, _*_}
+use Prim.Native.Nat.{ℕ, _+_, _*_}
 use mathlib.Core.List.{List, [], _∷_, _++_}
 use mathlib.Core.Bool.{Bool, true, cond, _&&_}
 use lib.Dec.{eqb}
 use lib.ListN.{getD, take, drop, replicate}
-use Rattle.subdata.specs.Sizes.{blockCount, blockLength, itemLength, packsLength, part, inTurn}
+use Rattle.subdata.specs.Sizes.{blockCount, blockLength, headerLength, itemLength, dataLength, packsLength, part, inTurn}
 use Rattle.subdata.specs.Header.{headerOf, packOf, packIn}
 
 -- A block's four places among the items lent: 32 bytes.
 abbrev pub placesIn : List ℕ → ℕ → List ℕ
-placesIn items block = part (4 * itemLength) items block
+placesIn items block = part dataLength items block
 
 -- "either all set to all ZEROs if the Pack ID is set to 6": whatever was lent at that place. Any other close is carried.
 abbrev pub closeOf : ℕ → List ℕ → List ℕ
@@ -42,10 +42,10 @@ abbrev pub parityIn : List ℕ → ℕ
 parityIn block = getD block 2 0
 
 abbrev pub dataIn : List ℕ → List ℕ
-dataIn block = drop 3 block
+dataIn block = drop headerLength block
 
 abbrev pub closeIn : List ℕ → List ℕ
-closeIn block = drop 27 block
+closeIn block = drop (headerLength + 3 * itemLength) block
 
 -- The Pack IDs of a track's even blocks.
 unfoldable pub packsOf : List ℕ → List ℕ

@@ -4,4 +4,5 @@ pub mod Header
 pub mod Blocks
 pub mod Items
 pub mod Answer
+pub mod Trip
 pub mod Bounds

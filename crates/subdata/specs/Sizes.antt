@@ -12,10 +12,18 @@ blockCount = 16
 abbrev pub blockLength : ℕ
 blockLength = 35
 
--- A block has four places, three Pack Items and the close, of 8 bytes each.
+-- "a 3-byte Header"
+abbrev pub headerLength : ℕ
+headerLength = 3
+
+-- Then the Data Part: four places, three Pack Items and the close, of 8 bytes each.
 abbrev pub itemLength : ℕ
 itemLength = 8
 
+abbrev pub dataLength : ℕ
+dataLength = 32
+
+-- Place 4b + p of a track is place p of block b.
 abbrev pub placeCount : ℕ
 placeCount = 64
 

@@ -1,10 +1,10 @@
 // The slices that an accepted call fills: the track block by block, and from a track its Pack IDs and its items.
 ghost use mathlib.Core.Path.{_≡_};
-ghost use Prim.Native.Nat.{_+_, _*_, _<_, _≤_};
+ghost use Prim.Native.Nat.{_+_, _<_, _≤_};
 ghost use lib.ListN.{length};
 ghost use Rattle.group.specs.Store.{put};
-ghost use Rattle.subdata.specs.Sizes.{trackLength, packsLength, itemsLength, blockLength, itemLength};
-ghost use Rattle.subdata.specs.Header.{headerOf, packIn};
+ghost use Rattle.subdata.specs.Sizes.{trackLength, packsLength, itemsLength, blockLength, dataLength, itemLength};
+ghost use Rattle.subdata.specs.Header.{headerOf};
 ghost use Rattle.subdata.specs.Blocks.{closeOf, blockOf, trackOf, packsOf, itemsOf};
 ghost use Rattle.subdata.specs.Bounds.{PacksKept};
 use crate::Track;
@@ -37,7 +37,7 @@ fn put_close(track: &mut [u8], at: usize, pack: u8, close: &[u8])
 
 // One block from index `at` on, from the four places that are lent.
 fn put_block(track: &mut [u8], at: usize, area: u32, pack: u8, block: u8, places: &[u8])
-    requires { ⌜ (at + blockLength ≤ length (now track)) × (length (now places) ≡ 4 * itemLength) ⌝ }
+    requires { ⌜ (at + blockLength ≤ length (now track)) × (length (now places) ≡ dataLength) ⌝ }
     requires { ⌜ (area < 16) × ((pack < 8) × (block < 16)) ⌝ }
     ensures { λ _. ⌜ now (track .exit) ≡ put (now (track .entry)) at (blockOf area pack block (now (places .entry))) ⌝ }
 {
@@ -55,8 +55,8 @@ pub(crate) fn put_track(track: &mut [u8], area: u32, packs: &[u8], items: &[u8])
     let mut block: u8 = 0;
     while block < Track::BLOCKS {
         let pack = header::pack_in(packs, block);
-        let from = 32 * (block as usize);
-        let to = from + 32;
+        let from = Track::DATA_LENGTH * (block as usize);
+        let to = from + Track::DATA_LENGTH;
         put_block(
             track,
             Track::BLOCK_LENGTH * (block as usize),
@@ -87,11 +87,11 @@ pub(crate) fn put_items(items: &mut [u8], track: &[u8])
     requires { ⌜ (length (now items) ≡ itemsLength) × (length (now track) ≡ trackLength) ⌝ }
     ensures { λ _. ⌜ now (items .exit) ≡ itemsOf (now (track .entry)) ⌝ }
 {
-    let mut block: usize = 0;
-    while block < 16 {
-        let from = Track::BLOCK_LENGTH * block + 3;
-        let to = from + 32;
-        group::bytes::put_bytes(items, 32 * block, &track[from..to]);
+    let mut block: u8 = 0;
+    while block < Track::BLOCKS {
+        let from = Track::BLOCK_LENGTH * (block as usize) + 3;
+        let to = from + Track::DATA_LENGTH;
+        group::bytes::put_bytes(items, Track::DATA_LENGTH * (block as usize), &track[from..to]);
         block += 1;
     }
 }

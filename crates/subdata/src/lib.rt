@@ -35,6 +35,8 @@ impl Track {
 
     pub const ITEM_LENGTH: usize = 8;
 
+    pub const DATA_LENGTH: usize = 32;
+
     pub const BLOCK_LENGTH: usize = 35;
 
     pub const LENGTH: usize = 560;

@@ -60,6 +60,8 @@ put-items-spec =
     (λ c. omega arith)
     (λ c. omega arith)
     (λ c. omega arith)
+    (λ c. omega arith)
+    (λ c. omega arith)
     (λ c κs.
     let l = c .before .before .before in
     omega (arith, l .loop .inv .long, length-between (35 * l .loop .block + 3) 32 (l .before .before .before .args .track .now) (omega arith)))
