@@ -11,8 +11,8 @@ use lib.ListN.{length, getD, take, drop, replicate, length-append, length-drop, 
 use lib.Seq.{length-take-le, drop-drop, getD-take, getD-drop}
 use Rattle.group.specs.Store.{put}
 use Rattle.group.proofs.Stores.{put-put}
-use Rattle.subdata.proofs.Turns.{take-rest, drop-take}
-use Rattle.subdata.specs.Header.{headerOf}
+use Rattle.subdata.proofs.Turns.{take-rest, drop-take, Wide}
+use Rattle.subdata.specs.Header.{headerOf, packIn}
 use Rattle.subdata.specs.Blocks.{placesIn, closeOf, dataOf, blockOf, blockAt, sw2In, dataIn}
 
 pub length-header : (area pack block : ℕ) → length (headerOf area pack block) ≡ 3
@@ -68,3 +68,14 @@ data-between track block = drop-take 3 32 (drop (35 * block) track) ∙ ap (take
 
 pub sw2-at : (track : List ℕ) (block : ℕ) → sw2In (blockAt track block) ≡ getD track (35 * block + 1) 0
 sw2-at track block = getD-take 35 (drop (35 * block) track) 1 0 (omega arith) ∙ getD-drop (35 * block) track 1 0
+
+-- A block of a whole track.
+pub length-block-at : (track : List ℕ) → length track ≡ 560 → (block : ℕ) → block < 16 → length (blockAt track block) ≡ 35
+length-block-at track long block less = length-take-le 35 (drop (35 * block) track) (omega (arith, length-drop (35 * block) track))
+
+pub length-data-at : (track : List ℕ) → length track ≡ 560 → (block : ℕ) → block < 16 → length (dataIn (blockAt track block)) ≡ 32
+length-data-at track long block less = length-drop 3 (blockAt track block) ∙ omega (arith, length-block-at track long block less)
+
+-- Each block that is made has its length.
+pub blocks-wide : (area : ℕ) (packs items : List ℕ) → length items ≡ 512 → Wide (λ (block : ℕ). blockOf area (packIn packs block) block (placesIn items block)) 35 16
+blocks-wide area packs items long block less = length-block area (packIn packs block) block (placesIn items block) (length-places items long block less)

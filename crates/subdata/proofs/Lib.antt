@@ -5,3 +5,4 @@ pub mod BlockLaws
 pub mod Judged
 pub mod OneBlock
 pub mod Settled
+pub mod Theorems

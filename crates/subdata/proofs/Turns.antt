@@ -6,7 +6,7 @@ use Prim.Native.Nat.{ℕ, zero, suc, _+_, _*_, _-_, _≤_, _<_, zero-le}
 use native.Mathlib.Nat.{not-suc-le-zero, le-of-suc-le-suc, mul-zero, mul-suc, sub-zero, add-zero, zero-add, suc-add, add-suc}
 use native.Mathlib.Numerals.{add-one}
 use native.Mathlib.Omega.{arith}
-use lib.ListN.{length, take, drop, length-append, length-drop}
+use lib.ListN.{length, getD, take, drop, length-append, length-drop}
 use lib.Seq.{length-take-le, take-at, drop-at, take-add, drop-drop, drop-nil, take-nil, drop-length, drop-append-add, take-all}
 use Rattle.group.specs.Store.{put}
 use Rattle.group.proofs.Stores.{put-none, put-split, put-put}
@@ -55,7 +55,7 @@ abbrev pub Wide : (ℕ → List ℕ) → ℕ → ℕ → Type 0
 Wide f width count = (k : ℕ) → k < count → length (f k) ≡ width
 
 module _ (f : ℕ → List ℕ) (width count : ℕ) (wide : Wide f width count) where
-  length-turns : (i n : ℕ) → i + n ≤ count → length (inTurn f i n) ≡ width * n
+  pub length-turns : (i n : ℕ) → i + n ≤ count → length (inTurn f i n) ≡ width * n
   unfolding inTurn
   length-turns i zero h = sym (mul-zero width)
   length-turns i (suc n) h =
@@ -108,3 +108,13 @@ module _ (f : ℕ → List ℕ) (width count : ℕ) where
       let none : drop (0 + length (inTurn f 0 count)) old ≡ [] = ap (λ (n : ℕ). drop n old) end ∙ drop-length old in
       sym (rw rest (put-none now (width * k))) ∙ s .same ∙ put-split old 0 (inTurn f 0 count) (omega arith)
       ∙ ap (λ (l : List ℕ). inTurn f 0 count ++ l) none ∙ append-nil (inTurn f 0 count)
+
+-- What was made number by number.
+get-from : (g : ℕ → ℕ) (i n k : ℕ) → k < n → getD (inTurn (λ (j : ℕ). g j ∷ []) i n) k 0 ≡ g (i + k)
+unfolding inTurn
+get-from g i zero k less = absurd (not-suc-le-zero less)
+get-from g i (suc n) zero less = ap g (sym (add-zero i))
+get-from g i (suc n) (suc k) less = get-from g (suc i) n k (le-of-suc-le-suc less) ∙ ap g (suc-add i k ∙ sym (add-suc i k))
+
+pub get-of-turns : (g : ℕ → ℕ) (n k : ℕ) → k < n → getD (inTurn (λ (j : ℕ). g j ∷ []) 0 n) k 0 ≡ g k
+get-of-turns g n k less = get-from g 0 n k less ∙ ap g (zero-add k)

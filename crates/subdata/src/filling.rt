@@ -91,7 +91,11 @@ pub(crate) fn put_items(items: &mut [u8], track: &[u8])
     while block < Track::BLOCKS {
         let from = Track::BLOCK_LENGTH * (block as usize) + 3;
         let to = from + Track::DATA_LENGTH;
-        group::bytes::put_bytes(items, Track::DATA_LENGTH * (block as usize), &track[from..to]);
+        group::bytes::put_bytes(
+            items,
+            Track::DATA_LENGTH * (block as usize),
+            &track[from..to],
+        );
         block += 1;
     }
 }

@@ -1,24 +1,19 @@
 -- `put_items` meets its contract: a block's four places a turn. Assumes nothing.
 use mathlib.Core.Path.{_≡_, sym, ap, _∙_}
 use mathlib.Core.List.{List}
-use Prim.Native.Nat.{ℕ, _+_, _*_, _-_, _<_}
+use Prim.Native.Nat.{ℕ, _+_, _*_, _-_}
 use native.Mathlib.Omega.{arith}
-use lib.ListN.{length, take, drop, length-drop}
-use lib.Seq.{length-take-le}
+use lib.ListN.{take, drop}
 use Rattle.group.specs.Store.{put}
 use Rattle.subdata.specs.Blocks.{blockAt, dataIn, itemsOf}
-use Rattle.subdata.proofs.Turns.{between-ends, length-between, Wide, Filled, filled-none, filled-turn, filled-done}
-use Rattle.subdata.proofs.BlockLaws.{data-between}
+use Rattle.subdata.proofs.Turns.{between-ends, length-between, Filled, filled-none, filled-turn, filled-done}
+use Rattle.subdata.proofs.BlockLaws.{data-between, length-data-at}
 use Rattle.subdata.proofs.filling.put_items.Statement.{statement}
 use Rattle.subdata.proofs.filling.put_items.Tie as tie
 
 -- What stands at the places of each block.
 abbrev stands : List ℕ → ℕ → List ℕ
 stands track block = dataIn (blockAt track block)
-
-wide : (track : List ℕ) → length track ≡ 560 → Wide (stands track) 32 16
-wide track long block less =
-    ap length (data-between track block) ∙ length-take-le 32 (drop (35 * block + 3) track) (omega (arith, length-drop (35 * block + 3) track))
 
 stored : (block : ℕ) (track now after : List ℕ) → after ≡ put now (32 * block) (take (35 * block + 3 + 32 - (35 * block + 3)) (drop (35 * block + 3) track))
     → after ≡ put now (32 * block) (stands track block)
@@ -36,7 +31,7 @@ loop-again c =
     let t = p .before .before .before in
     let l = t .before in
     let s = l .before .before .before in
-    filled-turn _ 32 16 _ _ _ (l .loop .block) (t .loop-test .taken) (wide _ (s .pre .1) (l .loop .block) (t .loop-test .taken)) (p .put-bytes .kept .0)
+    filled-turn _ 32 16 _ _ _ (l .loop .block) (t .loop-test .taken) (length-data-at (s .args .track .now) (s .pre .1) (l .loop .block) (t .loop-test .taken)) (p .put-bytes .kept .0)
     (stored (l .loop .block) (s .args .track .now) _ _ (p .put-bytes .ensures)) (l .loop .inv)
 
 returns : tie.Need-returns Inv-loop μ-loop
@@ -44,7 +39,7 @@ unfolding itemsOf
 returns c =
     let l = c .before in
     let s = l .before .before .before in
-    filled-done _ 32 16 (wide _ (s .pre .1)) _ _ (l .loop .block) (omega arith) (s .pre .0) (l .loop .inv)
+    filled-done _ 32 16 (length-data-at (s .args .track .now) (s .pre .1)) _ _ (l .loop .block) (omega arith) (s .pre .0) (l .loop .inv)
 
 pub put-items-spec : {M : Type 1} → statement M
 put-items-spec =

@@ -1,23 +1,20 @@
 -- `put_track` meets its contract: a block a turn. Assumes nothing.
 use mathlib.Core.Path.{_≡_, ap, _∙_}
 use mathlib.Core.List.{List}
-use Prim.Native.Nat.{ℕ, _+_, _*_, _-_, _<_}
+use Prim.Native.Nat.{ℕ, _+_, _*_, _-_}
 use native.Mathlib.Omega.{arith}
-use lib.ListN.{length, take, drop}
+use lib.ListN.{take, drop}
 use Rattle.group.specs.Store.{put}
 use Rattle.subdata.specs.Header.{packIn}
 use Rattle.subdata.specs.Blocks.{placesIn, blockOf, trackOf}
-use Rattle.subdata.proofs.Turns.{between-ends, length-between, Wide, Filled, filled-none, filled-turn, filled-done}
-use Rattle.subdata.proofs.BlockLaws.{length-block, length-places}
+use Rattle.subdata.proofs.Turns.{between-ends, length-between, Filled, filled-none, filled-turn, filled-done}
+use Rattle.subdata.proofs.BlockLaws.{blocks-wide}
 use Rattle.subdata.proofs.filling.put_track.Statement.{statement}
 use Rattle.subdata.proofs.filling.put_track.Tie as tie
 
 -- Each block of the track.
 abbrev made : ℕ → List ℕ → List ℕ → ℕ → List ℕ
 made area packs items block = blockOf area (packIn packs block) block (placesIn items block)
-
-wide : (area : ℕ) (packs items : List ℕ) → length items ≡ 512 → Wide (made area packs items) 35 16
-wide area packs items long block less = length-block area (packIn packs block) block (placesIn items block) (length-places items long block less)
 
 -- A block that was stored, from its Pack ID and what lies between two indices.
 stored : (area pack block : ℕ) (packs items now after : List ℕ) → pack ≡ packIn packs block
@@ -37,7 +34,7 @@ loop-again c =
     let d = p .before .before .before in
     let l = d .before .before in
     let s = l .before .before .before .before in
-    filled-turn _ 35 16 _ _ _ (l .loop .block) (d .before .loop-test .taken) (wide (s .args .area) (s .args .packs .now) (s .args .items .now) (s .pre .0 .1 .1) (l .loop .block) (d .before .loop-test .taken)) (p .put-block .kept .0)
+    filled-turn _ 35 16 _ _ _ (l .loop .block) (d .before .loop-test .taken) (blocks-wide (s .args .area) (s .args .packs .now) (s .args .items .now) (s .pre .0 .1 .1) (l .loop .block) (d .before .loop-test .taken)) (p .put-block .kept .0)
     (stored (s .args .area) _ (l .loop .block) (s .args .packs .now) (s .args .items .now) _ _ (d .pack-in .ensures) (p .put-block .ensures)) (l .loop .inv)
 
 returns : tie.Need-returns Inv-loop μ-loop
@@ -45,7 +42,7 @@ unfolding trackOf
 returns c =
     let l = c .before in
     let s = l .before .before .before .before in
-    filled-done _ 35 16 (wide (s .args .area) (s .args .packs .now) (s .args .items .now) (s .pre .0 .1 .1)) _ _ (l .loop .block) (omega arith) (s .pre .0 .0) (l .loop .inv)
+    filled-done _ 35 16 (blocks-wide (s .args .area) (s .args .packs .now) (s .args .items .now) (s .pre .0 .1 .1)) _ _ (l .loop .block) (omega arith) (s .pre .0 .0) (l .loop .inv)
 
 pub put-track-spec : {M : Type 1} → statement M
 put-track-spec =
