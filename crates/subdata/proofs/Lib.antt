@@ -6,3 +6,4 @@ pub mod Judged
 pub mod OneBlock
 pub mod Settled
 pub mod Theorems
+pub mod Worked

@@ -5,4 +5,5 @@ pub mod Blocks
 pub mod Items
 pub mod Answer
 pub mod Trip
+pub mod Worked
 pub mod Bounds
