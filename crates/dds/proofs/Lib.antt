@@ -1,5 +1,6 @@
 -- The laws that the proofs of this crate share, and those that the crates above cite.
 pub mod SliceLaws
 pub mod Outcomes
+pub mod TrackOutcomes
 pub mod States
 pub mod Settled

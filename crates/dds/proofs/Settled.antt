@@ -1,12 +1,13 @@
--- For each of the six calls: two outcomes that meet its contract coincide. An outcome is the returned number and every byte of
+-- For each call: two outcomes that meet its contract coincide. An outcome is the returned number and every byte of
 -- every slice that the call may write.
 -- Assumes nothing.
 use mathlib.Core.Path.{_≡_, sym, _∙_}
 use mathlib.Core.List.{List}
 use Prim.Native.Nat.{ℕ}
 use Rattle.dds.specs.Calls.{Outcome, ddsReaderStart, ddsRead, ddsWriterStart, ddsRecord, ddsSeparator, ddsEnd}
+use Rattle.dds.specs.Tracks.{MakeOutcome, ReadOutcome, ddsSubdataMake, ddsSubdataRead}
 
-same : {x a b : Outcome} → a ≡ x → b ≡ x → a ≡ b
+same : {A : Type 0} {x a b : A} → a ≡ x → b ≡ x → a ≡ b
 same e f = e ∙ sym f
 
 pub reader-start-settled : (size first : ℕ) (state answer : List ℕ) {a b : Outcome}
@@ -32,3 +33,11 @@ separator-settled state group value warn answer e f = same e f
 pub end-settled : (state group : List ℕ) (warn : ℕ) (answer : List ℕ) {a b : Outcome}
     → a ≡ ddsEnd state group warn answer → b ≡ ddsEnd state group warn answer → a ≡ b
 end-settled state group warn answer e f = same e f
+
+pub subdata-make-settled : (area frame : ℕ) (packs items track numbers answer : List ℕ) {a b : MakeOutcome}
+    → a ≡ ddsSubdataMake area frame packs items track numbers answer → b ≡ ddsSubdataMake area frame packs items track numbers answer → a ≡ b
+subdata-make-settled area frame packs items track numbers answer e f = same e f
+
+pub subdata-read-settled : (area frame : ℕ) (track packs items numbers answer : List ℕ) {a b : ReadOutcome}
+    → a ≡ ddsSubdataRead area frame track packs items numbers answer → b ≡ ddsSubdataRead area frame track packs items numbers answer → a ≡ b
+subdata-read-settled area frame track packs items numbers answer e f = same e f

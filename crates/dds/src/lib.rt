@@ -1,5 +1,6 @@
-// The library as C firmware sees it: six calls on plain numbers and lent byte slices, over the proved reader and writer.
+// The library as C firmware sees it: calls on plain numbers and lent byte slices, over the proved reader, writer and track.
 // None of them requires anything: every slice of every length is answered.
 mod reading;
 mod slices;
+mod tracks;
 mod writing;
