@@ -1,6 +1,6 @@
-/* dds.h: writing and reading the Basic Groups of DDS tapes, called from C.
+/* dds.h: writing and reading the Basic Groups and the Sub Data Blocks of DDS tapes, called from C.
 
-   Six calls on plain numbers and lent byte slices. A slice is a pointer and a length in bytes. Every number inside a
+   Eight calls on plain numbers and lent byte slices. A slice is a pointer and a length in bytes. Every number inside a
    slice is four bytes, most significant first. Each call returns the refusal number, DDS_ACCEPTED if it was accepted.
    The library keeps nothing between calls, allocates nothing and calls nothing but memset and memcpy.
 
@@ -42,6 +42,11 @@ extern "C" {
 #define DDS_ANSWER_LEN 24u             /* the answer, the same for every call */
 #define DDS_ROW_LEN    12u             /* one row; a read of n entries needs n rows at least */
 
+#define DDS_TRACK_LEN   560u           /* a track: 16 Sub Data Blocks */
+#define DDS_PACKS_LEN   8u             /* Pack IDs: one byte for each even block, 0, 2 .. 14 */
+#define DDS_ITEMS_LEN   512u           /* what stands at the 64 places of a track, place by place */
+#define DDS_NUMBERS_LEN 256u           /* the Item numbers of the 64 places */
+
 /* ---- Fields of a state. The first four are the reader's; a writer has all eight. */
 
 #define DDS_STATE_SIZE    0u           /* group size L */
@@ -60,7 +65,7 @@ extern "C" {
 /* ---- Fields of the answer */
 
 #define DDS_ANSWER_REFUSAL 0u          /* the number the call returns too */
-#define DDS_ANSWER_PLACE   4u          /* the entry, from 1, for refusals 8 to 13; else 0 */
+#define DDS_ANSWER_PLACE   4u          /* the entry, from 1, for refusals 8 to 13; the block for 31 to 34; else 0 */
 #define DDS_ANSWER_OUTCOME 8u          /* DDS_OUTCOME_.. */
 #define DDS_ANSWER_NUMBER  12u         /* at a close: the closed group's number */
 #define DDS_ANSWER_ENTRIES 16u         /* at a close: its entry count, an owed total and the skip counted */
@@ -83,6 +88,28 @@ extern "C" {
 #define DDS_KIND_ENTIRE    6u          /* count: bytes of the record */
 #define DDS_KIND_SKIP      7u          /* count: L less all data bytes before it */
 
+/* ---- A track: block b at byte 35b; place 4b + p at byte 8(4b + p) of the items, and its number at byte 4(4b + p) of the
+   numbers. p is 0, 1, 2 for a block's three items and 3 for its close. */
+
+#define DDS_BLOCKS       16u           /* blocks of a track, 0 to 15 */
+#define DDS_BLOCK_LEN    35u           /* one block */
+#define DDS_BLOCK_SW1    0u            /* even block: Area ID over 1000; odd block: 0 */
+#define DDS_BLOCK_SW2    1u            /* b8 set, Pack ID (000 in an odd block), block number */
+#define DDS_BLOCK_PARITY 2u            /* SW1 exclusive or SW2 */
+#define DDS_BLOCK_ITEMS  3u            /* three items of 8 bytes */
+#define DDS_BLOCK_CLOSE  27u           /* the close of 8 bytes */
+#define DDS_PLACES       64u           /* places of a track */
+#define DDS_ITEM_LEN     8u            /* what stands at one place */
+
+#define DDS_AREA_REFERENCE 1u          /* Area IDs with bit X clear, Partition 1 of a tape with two partitions .. */
+#define DDS_AREA_SYSTEM    2u
+#define DDS_AREA_DATA      4u
+#define DDS_AREA_EOD       5u
+#define DDS_AREA_X         8u          /* .. and what bit X adds: a Single Data Space, and Partition 0 */
+
+#define DDS_LOG_FIRST 71u              /* frames of the System Area's log */
+#define DDS_LOG_LAST  95u
+
 /* ---- Refusals, with the calls that give them */
 
 #define DDS_ACCEPTED               0u
@@ -104,6 +131,11 @@ extern "C" {
 #define DDS_REFUSED_REST          16u  /* offer isn't the rest: record */
 #define DDS_REFUSED_OPEN          17u  /* a record is open: separator, end */
 #define DDS_REFUSED_SEPARATOR     18u  /* separator value over 1: separator */
+#define DDS_REFUSED_LENGTH        30u  /* a buffer's length is not its own: make, read of a track */
+#define DDS_REFUSED_PARITY        31u  /* parity is not SW1 exclusive or SW2: read of a track, at a block */
+#define DDS_REFUSED_SW1           32u  /* Area ID not allowed: make; SW1 not this track's: read, at a block */
+#define DDS_REFUSED_SW2           33u  /* Pack ID neither 6 nor 7: make, at a block; SW2 wrong: read, at a block */
+#define DDS_REFUSED_CLOSE         34u  /* a close with Pack ID 6 is not zero: read of a track, at a block */
 
 /* ---- Starting
 
@@ -158,6 +190,24 @@ uint32_t dds_separator(uint8_t *state, size_t state_len, uint8_t *group, size_t 
    Refusals in order: 1, 4, 17, 14 (only if a total is owed). */
 uint32_t dds_end(uint8_t *state, size_t state_len, uint8_t *group, size_t group_len, uint32_t warn, uint8_t *answer,
                  size_t answer_len);
+
+/* ---- Sub Data Blocks of a track
+
+   `area` is the Area ID's four bits as a number, `frame` the track's frame number: any number, never refused. Items, closes
+   with Pack ID 7 and the C1 bytes that close odd blocks are carried and not looked at.
+
+   Make: the track is filled from the Pack IDs and the items, and the numbers with each place's Item number. With Pack ID 6 an
+   even block closes in zeros, whatever is lent at that place.
+   Refusals in order: 1 by the answer's length, 30, 32 (place 0), 33 at the first even block whose Pack ID is neither 6 nor 7. */
+uint32_t dds_subdata_make(uint32_t area, uint32_t frame, const uint8_t *packs, size_t packs_len, const uint8_t *items,
+                          size_t items_len, uint8_t *track, size_t track_len, uint8_t *numbers, size_t numbers_len,
+                          uint8_t *answer, size_t answer_len);
+
+/* Read: the Pack IDs, the items and the numbers are filled from a track whose every block is as it should be, in this area.
+   Refusals in order: 1 by the answer's length, 30, then block by block from 0: 31, 32, 33, 34. */
+uint32_t dds_subdata_read(uint32_t area, uint32_t frame, const uint8_t *track, size_t track_len, uint8_t *packs,
+                          size_t packs_len, uint8_t *items, size_t items_len, uint8_t *numbers, size_t numbers_len,
+                          uint8_t *answer, size_t answer_len);
 
 #ifdef __cplusplus
 }

@@ -1,5 +1,5 @@
 /* The header alone, included first and twice, as C99 and as C++: its constants are document 01's numbers and the fields
-   and lengths of docs/C-INTERFACE.md, and its six prototypes link. */
+   and lengths of docs/C-INTERFACE.md, and its prototypes link. */
 
 #include "dds.h"
 #include "dds.h"
@@ -24,6 +24,12 @@ static const struct { const char *name; uint32_t found, wanted; } constants[] = 
     IS(DDS_REFUSED_FOLLOW, 10) IS(DDS_REFUSED_COUNT, 11) IS(DDS_REFUSED_ROOM, 12) IS(DDS_REFUSED_SKIP, 13)
     IS(DDS_REFUSED_NO_NUMBER, 14) IS(DDS_REFUSED_RECORD_LENGTH, 15) IS(DDS_REFUSED_REST, 16) IS(DDS_REFUSED_OPEN, 17)
     IS(DDS_REFUSED_SEPARATOR, 18)
+    IS(DDS_TRACK_LEN, 560) IS(DDS_PACKS_LEN, 8) IS(DDS_ITEMS_LEN, 512) IS(DDS_NUMBERS_LEN, 256)
+    IS(DDS_BLOCKS, 16) IS(DDS_BLOCK_LEN, 35) IS(DDS_BLOCK_SW1, 0) IS(DDS_BLOCK_SW2, 1) IS(DDS_BLOCK_PARITY, 2)
+    IS(DDS_BLOCK_ITEMS, 3) IS(DDS_BLOCK_CLOSE, 27) IS(DDS_PLACES, 64) IS(DDS_ITEM_LEN, 8)
+    IS(DDS_AREA_REFERENCE, 1) IS(DDS_AREA_SYSTEM, 2) IS(DDS_AREA_DATA, 4) IS(DDS_AREA_EOD, 5) IS(DDS_AREA_X, 8)
+    IS(DDS_LOG_FIRST, 71) IS(DDS_LOG_LAST, 95)
+    IS(DDS_REFUSED_LENGTH, 30) IS(DDS_REFUSED_PARITY, 31) IS(DDS_REFUSED_SW1, 32) IS(DDS_REFUSED_SW2, 33) IS(DDS_REFUSED_CLOSE, 34)
 };
 
 int main(void)
@@ -42,6 +48,8 @@ int main(void)
     failures += dds_record(none, 0, none, 0, none, 0, 0, none, 0) != 1;
     failures += dds_separator(none, 0, none, 0, 0, 0, none, 0) != 1;
     failures += dds_end(none, 0, none, 0, 0, none, 0) != 1;
-    printf("header: %u checks, %d failed\n", (unsigned)n + 6, failures);
+    failures += dds_subdata_make(12, 0, none, 0, none, 0, none, 0, none, 0, none, 0) != 1;
+    failures += dds_subdata_read(12, 0, none, 0, none, 0, none, 0, none, 0, none, 0) != 1;
+    printf("header: %u checks, %d failed\n", (unsigned)n + 8, failures);
     return failures != 0;
 }

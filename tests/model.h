@@ -1,4 +1,4 @@
-/* The six calls of include/dds.h as a plain C implementation of document 01, under the prefix model_.
+/* The six calls of include/dds.h on groups as a plain C implementation of document 01, under the prefix model_.
    Only the tests use it: the library is held against it byte for byte. */
 
 #ifndef MODEL_H
