@@ -2,5 +2,6 @@
 pub mod SliceLaws
 pub mod Outcomes
 pub mod TrackOutcomes
+pub mod TrackTrip
 pub mod States
 pub mod Settled

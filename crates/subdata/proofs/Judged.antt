@@ -7,9 +7,9 @@ use Prim.Native.Nat.{ℕ, zero, suc, _+_, _-_, _≤_, _<_}
 use native.Mathlib.Nat.{add-zero, zero-add, suc-add, add-suc}
 use native.Mathlib.Numerals.{add-one}
 use native.Mathlib.Omega.{arith}
-use borrow.Author.Tests.{eq-eqb, ne-eqb, eqb-true, leb-true}
+use borrow.Author.Tests.{eq-eqb, ne-eqb, eqb-true, eqb-false, leb-true}
 use lib.Dec.{eqb, leb}
-use lib.ListN.{length}
+use lib.ListN.{length, getD}
 use Rattle.group.specs.Sizes.{between}
 use Rattle.group.proofs.Tests.{both, within}
 use Rattle.subdata.specs.declared.TrackAnswer.{TrackAnswer}
@@ -18,7 +18,7 @@ use Rattle.subdata.specs.Sizes.{trackLength, packsLength, itemsLength, n
 use Rattle.subdata.specs.Header.{even, areaKept, packKept, packIn}
 use Rattle.subdata.specs.Blocks.{blockAt}
 use Rattle.subdata.specs.Bounds.{PacksKept}
-use Rattle.subdata.specs.Answer.{lengthsKept, blockFault, packFault, onward, faultFrom, makeCall, readCall}
+use Rattle.subdata.specs.Answer.{lengthsKept, blockFault, packFault, onward, faultFrom, makeCall, readCall, told}
 
 -- A loop over the blocks: the first fault from here on is the first of all.
 pub record Judging (fault : ℕ → ℕ) (block : ℕ) : Type 0 where
@@ -72,6 +72,17 @@ pub none-found : (fault : ℕ → ℕ) (i n : ℕ) → ((k : ℕ) → k < i + n 
 unfolding faultFrom
 none-found fault i zero h = refl
 none-found fault i (suc n) h = rw (h i (omega arith)) (none-found fault (suc i) n (λ k less. h k (omega arith)))
+
+-- A refusal's number is never 0: a call that tells 0 is accepted.
+told-none : (fault : ℕ → ℕ) (i n : ℕ) → getD (told (faultFrom fault i n)) 0 0 ≡ 0 → faultFrom fault i n ≡ Accepted
+unfolding faultFrom
+told-none fault i zero e = refl
+told-none fault i (suc n) e = by (eqb (fault i) 0) refl (told-none fault (suc i) n) e
+  where
+    by : (b : Bool) → eqb (fault i) 0 ≡ b → (getD (told (faultFrom fault (suc i) n)) 0 0 ≡ 0 → faultFrom fault (suc i) n ≡ Accepted)
+        → getD (told (cond b (faultFrom fault (suc i) n) (Refused (fault i) i))) 0 0 ≡ 0 → cond b (faultFrom fault (suc i) n) (Refused (fault i) i) ≡ Accepted
+    by true x rest h = rest h
+    by false x rest h = absurd (eqb-false (fault i) 0 x h)
 
 -- The number of a Pack ID that may not be, and of one that may.
 module _ (packs : List ℕ) (block pack : ℕ) (is : pack ≡ packIn packs block) where
@@ -167,6 +178,16 @@ module _ (area : ℕ) (packs : List ℕ) (items track numbers : ℕ) where
       by true x true y h =
           record { long = lengths track (length packs) items numbers x; allowed = y; each = λ block less. no-fault (packFault packs) block h less }
 
+  pub make-told : getD (told (makeCall area packs items track numbers)) 0 0 ≡ 0 → makeCall area packs items track numbers ≡ Accepted
+  unfolding makeCall
+  make-told e = by (lengthsKept track (length packs) items numbers) (areaKept area) e
+    where
+      by : (l a : Bool) → getD (told (cond (not l) (Refused 30 0) (cond (not a) (Refused 32 0) (faultFrom (packFault packs) 0 16)))) 0 0 ≡ 0
+          → cond (not l) (Refused 30 0) (cond (not a) (Refused 32 0) (faultFrom (packFault packs) 0 16)) ≡ Accepted
+      by false a h = absurd (omega arith)
+      by true false h = absurd (omega arith)
+      by true true h = told-none (packFault packs) 0 16 h
+
   pub packs-small : MakeKept area packs items track numbers → PacksKept packs
   packs-small m block less = pack-small block (packIn packs block) (pack-is-kept packs block (m .each block less))
 
@@ -197,6 +218,15 @@ module _ (area : ℕ) (track : List ℕ) (packs items numbers : ℕ) where
             long = lengths (length track) packs items numbers x;
             each = λ block less. no-fault (λ (b : ℕ). blockFault area b (blockAt track b)) block h less;
           }
+
+  pub read-told : getD (told (readCall area track packs items numbers)) 0 0 ≡ 0 → readCall area track packs items numbers ≡ Accepted
+  unfolding readCall
+  read-told e = by (lengthsKept (length track) packs items numbers) e
+    where
+      by : (l : Bool) → getD (told (cond (not l) (Refused 30 0) (faultFrom (λ (block : ℕ). blockFault area block (blockAt track block)) 0 16))) 0 0 ≡ 0
+          → cond (not l) (Refused 30 0) (faultFrom (λ (block : ℕ). blockFault area block (blockAt track block)) 0 16) ≡ Accepted
+      by false h = absurd (omega arith)
+      by true h = told-none (λ (block : ℕ). blockFault area block (blockAt track block)) 0 16 h
 
   pub read-accepts : ReadKept area track packs items numbers → readCall area track packs items numbers ≡ Accepted
   read-accepts m =

@@ -7,13 +7,12 @@ use mathlib.Core.List.{List, [], _∷_, _++_}
 use Prim.Native.Nat.{ℕ, zero, suc, _+_, _*_, _/_, _%_, _<_}
 use native.Mathlib.Omega.{arith}
 use borrow.Author.Tests.{eq-eqb, eqb-true, not-false}
-use lib.Bits.{bitXor}
 use lib.Dec.{eqb}
 use lib.ListN.{length, take, drop, replicate, take-append-drop, length-drop}
 use lib.Seq.{length-take-le, drop-at}
 use Rattle.group.proofs.Tests.{both, and, passed}
 use Rattle.subdata.specs.Header.{even, areaKept, sw1Of, sw2Of, parityOf, headerOf, packOf, packKept, sw1Kept, sw2Kept}
-use Rattle.subdata.specs.Blocks.{closeOf, dataOf, blockOf, sw1In, sw2In, parityIn, dataIn, closeIn, zeros}
+use Rattle.subdata.specs.Blocks.{dataOf, blockOf, sw1In, sw2In, parityIn, dataIn, zeros}
 use Rattle.subdata.specs.Answer.{parityKept, closeKept, blockFault}
 use Rattle.subdata.proofs.Judged.{pack-small}
 

@@ -5,7 +5,7 @@ use mathlib.Core.Bool.{Bool, true, false, cond}
 use mathlib.Core.List.{List, [], _∷_}
 use Prim.Native.Nat.{ℕ, _+_, _*_, _/_, _%_, _<_}
 use native.Mathlib.Omega.{arith}
-use borrow.Author.Tests.{eqb-true, eqb-false, eq-eqb}
+use borrow.Author.Tests.{eqb-true}
 use lib.Dec.{eqb}
 use lib.ListN.{length, getD, take, drop}
 use lib.Seq.{drop-cons}
@@ -16,11 +16,11 @@ use Rattle.subdata.specs.declared.TrackAnswer.the-variants.{Accepted}
 use Rattle.subdata.specs.Sizes.{part, inTurn}
 use Rattle.subdata.specs.Header.{even, areaKept, packOf, packKept, sw1Kept, packIn}
 use Rattle.subdata.specs.Blocks.{placesIn, dataOf, blockOf, trackOf, blockAt, sw1In, sw2In, dataIn, packsOf, itemsOf}
-use Rattle.subdata.specs.Answer.{blockFault, packFault, readCall, makeCall, left}
+use Rattle.subdata.specs.Answer.{blockFault, readCall, makeCall, left}
 use Rattle.subdata.specs.Trip.{Makes, Reads, itemsKept}
 use Rattle.subdata.proofs.Turns.{turns-same, turns-parts, part-of-turns, length-turns, get-of-turns}
 use Rattle.subdata.proofs.BlockLaws.{length-places, length-block-at, length-data-at, blocks-wide}
-use Rattle.subdata.proofs.Judged.{Lengths, MakeKept, ReadKept, make-kept, make-accepts, pack-right, read-kept, read-accepts, pack-is-kept, pack-small}
+use Rattle.subdata.proofs.Judged.{MakeKept, ReadKept, make-kept, make-accepts, pack-right, read-kept, read-accepts, pack-is-kept, pack-small}
 use Rattle.subdata.proofs.OneBlock.{pack-taken, sw2-apart, data-made, sw2-made-in, made-kept, Sound, sound, block-again}
 
 -- Pack IDs one by one.

@@ -7,7 +7,7 @@ use native.Mathlib.Nat.{not-suc-le-zero, le-of-suc-le-suc, mul-zero, mul-suc, su
 use native.Mathlib.Numerals.{add-one}
 use native.Mathlib.Omega.{arith}
 use lib.ListN.{length, getD, take, drop, length-append, length-drop}
-use lib.Seq.{length-take-le, take-at, drop-at, take-add, drop-drop, drop-nil, take-nil, drop-length, drop-append-add, take-all}
+use lib.Seq.{length-take-le, take-at, take-add, drop-drop, take-nil, drop-length, drop-append-add, take-all}
 use Rattle.group.specs.Store.{put}
 use Rattle.group.proofs.Stores.{put-none, put-split, put-put}
 use Rattle.subdata.specs.Sizes.{part, inTurn}

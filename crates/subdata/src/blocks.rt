@@ -1,9 +1,9 @@
 // The judgement of a track, block by block from 0, and of what is lent to make one.
 ghost use mathlib.Core.Path.{_≡_};
-ghost use Prim.Native.Nat.{_<_, _≤_};
+ghost use Prim.Native.Nat.{_<_};
 ghost use lib.ListN.{length};
 ghost use Rattle.subdata.specs.Sizes.{blockLength};
-ghost use Rattle.subdata.specs.Blocks.{zeros, blockAt};
+ghost use Rattle.subdata.specs.Blocks.{zeros};
 ghost use Rattle.subdata.specs.Answer.{lengthsKept, closeKept, blockFault, makeCall, readCall};
 use crate::Track;
 use crate::TrackAnswer;

@@ -1,6 +1,6 @@
 // SW1 and SW2 of a block, made and taken apart by shifts and masks: source document 003, 9.4.9.1.
 ghost use mathlib.Core.Path.{_≡_};
-ghost use Prim.Native.Nat.{_/_, _<_, _≤_};
+ghost use Prim.Native.Nat.{_<_};
 ghost use lib.ListN.{length};
 ghost use Rattle.subdata.specs.Sizes.{packsLength};
 ghost use Rattle.subdata.specs.Header.{even, tapeArea, areaKept, sw1Of, sw2Of, packOf, packKept, sw1Kept, sw2Kept, packIn};

@@ -1,16 +1,16 @@
 -- `judge_reading` meets its contract: lengths, then the faults block by block. Assumes nothing.
 use borrow.Author.Needs.{needs}
-use mathlib.Core.Path.{_≡_, refl, sym, ap, _∙_}
+use mathlib.Core.Path.{_≡_, refl, ap, _∙_}
 use mathlib.Core.Bool.{true}
 use mathlib.Core.List.{List}
-use Prim.Native.Nat.{ℕ, _+_, _*_, _-_, _<_}
+use Prim.Native.Nat.{ℕ, _+_, _*_, _-_}
 use native.Mathlib.Omega.{arith}
 use lib.ListN.{length, take, drop}
 use Rattle.group.proofs.Tests.{fails, holds}
 use Rattle.subdata.specs.Blocks.{blockAt}
 use Rattle.subdata.specs.Answer.{lengthsKept, blockFault}
 use Rattle.subdata.proofs.Turns.{between-ends, length-between}
-use Rattle.subdata.proofs.Judged.{Lengths, Judging, judged-fault, judged-on, judged-all, lengths, read-lengths, read-blocks}
+use Rattle.subdata.proofs.Judged.{Judging, judged-fault, judged-on, judged-all, lengths, read-lengths, read-blocks}
 use Rattle.subdata.proofs.blocks.judge_reading.Statement.{statement}
 use Rattle.subdata.proofs.blocks.judge_reading.Tie as tie
 

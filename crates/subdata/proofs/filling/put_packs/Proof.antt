@@ -1,10 +1,10 @@
 -- `put_packs` meets its contract: an even block's Pack ID a turn. Assumes nothing.
 use borrow.Author.Needs.{needs}
-use mathlib.Core.Path.{_≡_, refl, sym, ap, _∙_}
+use mathlib.Core.Path.{_≡_, refl}
 use mathlib.Core.List.{List, [], _∷_}
-use Prim.Native.Nat.{ℕ, _+_, _*_, _-_, _<_}
+use Prim.Native.Nat.{ℕ, _+_, _*_, _-_}
 use native.Mathlib.Omega.{arith}
-use lib.ListN.{length, getD, set, length-set}
+use lib.ListN.{getD, set, length-set}
 use Rattle.group.specs.Store.{put}
 use Rattle.subdata.specs.Header.{packOf}
 use Rattle.subdata.specs.Blocks.{blockAt, sw2In, packsOf}
