@@ -14,7 +14,7 @@ use Rattle.subdata.specs.declared.TrackAnswer.the-variants.{Accepted}
 use Rattle.subdata.specs.Blocks.{trackOf, packsOf, itemsOf}
 use Rattle.subdata.specs.Items.{numbersOf}
 use Rattle.subdata.specs.Answer.{makeCall, readCall, left, told}
-use Rattle.subdata.specs.Trip.{Makes, Reads, itemsKept}
+use Rattle.subdata.specs.Trip.{Makes, Reads, itemsGivenBack}
 use Rattle.subdata.proofs.Judged.{make-told, read-told}
 use Rattle.subdata.proofs.Theorems.{subdata-returned, subdata-only-made}
 use Rattle.dds.specs.Slices.{answerLength}
@@ -88,7 +88,7 @@ module _ (area frame : ℕ) (track packs items numbers answer : List ℕ) (r : R
 pub c-subdata-returned : (area frame : ℕ) (packs items track numbers answer : List ℕ) (m : MakeOutcome) → m ≡ ddsSubdataMake area frame packs items track numbers answer → m .number ≡ 0
     → (packs′ items′ numbers′ answer′ : List ℕ) → length packs′ ≡ 8 → length items′ ≡ 512 → length numbers′ ≡ 256 → length answer′ ≡ answerLength
     → (r : ReadOutcome) → r ≡ ddsSubdataRead area frame (m .track) packs′ items′ numbers′ answer′
-    → (r .number ≡ 0) × ((r .packs ≡ packs) × ((r .items ≡ itemsKept packs items) × (r .numbers ≡ m .numbers)))
+    → (r .number ≡ 0) × ((r .packs ≡ packs) × ((r .items ≡ itemsGivenBack packs items) × (r .numbers ≡ m .numbers)))
 c-subdata-returned area frame packs items track numbers answer m e zero packs′ items′ numbers′ answer′ p i n a r f =
     let w = read area frame (m .track) packs′ items′ numbers′ answer′ r f a in
     let back = subdata-returned area frame packs items track numbers (m .track) (m .numbers) (accepted-made area frame packs items track numbers answer m e zero) packs′ items′ numbers′ p i n _ (r .packs) (r .items) (r .numbers) (w .reads) in

@@ -13,13 +13,13 @@ use Rattle.group.specs.Store.{put}
 use Rattle.group.proofs.Stores.{put-put}
 use Rattle.subdata.proofs.Turns.{take-rest, drop-take, Wide}
 use Rattle.subdata.specs.Header.{headerOf, packIn}
-use Rattle.subdata.specs.Blocks.{placesIn, closeOf, dataOf, blockOf, blockAt, sw2In, dataIn}
+use Rattle.subdata.specs.Blocks.{placesIn, closeOf, dataPartOf, blockOf, blockAt, sw2In, dataPartIn}
 
 pub length-header : (area pack block : ℕ) → length (headerOf area pack block) ≡ 3
 unfolding headerOf
 length-header area pack block = refl
 
--- A close is 8 bytes, and so the data part 32 and a block 35.
+-- A close is 8 bytes, and so the data chunk 32 and a block 35.
 pub length-close : (pack : ℕ) (close : List ℕ) → length close ≡ 8 → length (closeOf pack close) ≡ 8
 length-close pack close h = by (eqb pack 6) refl
   where
@@ -27,15 +27,15 @@ length-close pack close h = by (eqb pack 6) refl
     by true e = rw e
     by false e = rw e h
 
-pub length-data : (pack : ℕ) (places : List ℕ) → length places ≡ 32 → length (dataOf pack places) ≡ 32
-length-data pack places h =
+pub length-data-part : (pack : ℕ) (places : List ℕ) → length places ≡ 32 → length (dataPartOf pack places) ≡ 32
+length-data-part pack places h =
     let close : length (drop 24 places) ≡ 8 = omega (arith, length-drop 24 places) in
     simp length-append (omega (arith, length-take-le 24 places (omega arith), length-close pack (drop 24 places) close))
 
 pub length-block : (area pack block : ℕ) (places : List ℕ) → length places ≡ 32 → length (blockOf area pack block places) ≡ 35
 unfolding blockOf
 length-block area pack block places h =
-    length-append (headerOf area pack block) (dataOf pack places) ∙ omega (arith, length-header area pack block, length-data pack places h)
+    length-append (headerOf area pack block) (dataPartOf pack places) ∙ omega (arith, length-header area pack block, length-data-part pack places h)
 
 -- A close of zeros, and one that is lent.
 module _ (pack at : ℕ) (close track after : List ℕ) where
@@ -63,8 +63,8 @@ module _ (area pack block at : ℕ) (places track t₁ t₂ t₃ : List ℕ) (lo
 pub length-places : (items : List ℕ) → length items ≡ 512 → (block : ℕ) → block < 16 → length (placesIn items block) ≡ 32
 length-places items long block less = length-take-le 32 (drop (32 * block) items) (omega (arith, length-drop (32 * block) items))
 
-pub data-between : (track : List ℕ) (block : ℕ) → dataIn (blockAt track block) ≡ take 32 (drop (35 * block + 3) track)
-data-between track block = drop-take 3 32 (drop (35 * block) track) ∙ ap (take 32) (drop-drop 3 (35 * block) track)
+pub data-part-between : (track : List ℕ) (block : ℕ) → dataPartIn (blockAt track block) ≡ take 32 (drop (35 * block + 3) track)
+data-part-between track block = drop-take 3 32 (drop (35 * block) track) ∙ ap (take 32) (drop-drop 3 (35 * block) track)
 
 pub sw2-at : (track : List ℕ) (block : ℕ) → sw2In (blockAt track block) ≡ getD track (35 * block + 1) 0
 sw2-at track block = getD-take 35 (drop (35 * block) track) 1 0 (omega arith) ∙ getD-drop (35 * block) track 1 0
@@ -73,8 +73,8 @@ sw2-at track block = getD-take 35 (drop (35 * block) track) 1 0 (omega arith) �
 pub length-block-at : (track : List ℕ) → length track ≡ 560 → (block : ℕ) → block < 16 → length (blockAt track block) ≡ 35
 length-block-at track long block less = length-take-le 35 (drop (35 * block) track) (omega (arith, length-drop (35 * block) track))
 
-pub length-data-at : (track : List ℕ) → length track ≡ 560 → (block : ℕ) → block < 16 → length (dataIn (blockAt track block)) ≡ 32
-length-data-at track long block less = length-drop 3 (blockAt track block) ∙ omega (arith, length-block-at track long block less)
+pub length-data-part-at : (track : List ℕ) → length track ≡ 560 → (block : ℕ) → block < 16 → length (dataPartIn (blockAt track block)) ≡ 32
+length-data-part-at track long block less = length-drop 3 (blockAt track block) ∙ omega (arith, length-block-at track long block less)
 
 -- Each block that is made has its length.
 pub blocks-wide : (area : ℕ) (packs items : List ℕ) → length items ≡ 512 → Wide (λ (block : ℕ). blockOf area (packIn packs block) block (placesIn items block)) 35 16

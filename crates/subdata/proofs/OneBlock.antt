@@ -12,7 +12,7 @@ use lib.ListN.{length, take, drop, replicate, take-append-drop, length-drop}
 use lib.Seq.{length-take-le, drop-at}
 use Rattle.group.proofs.Tests.{both, and, passed}
 use Rattle.subdata.specs.Header.{even, areaKept, sw1Of, sw2Of, parityOf, headerOf, packOf, packKept, sw1Kept, sw2Kept}
-use Rattle.subdata.specs.Blocks.{dataOf, blockOf, sw1In, sw2In, parityIn, dataIn, zeros}
+use Rattle.subdata.specs.Blocks.{dataPartOf, blockOf, sw1In, sw2In, parityIn, dataPartIn, zeros}
 use Rattle.subdata.specs.Answer.{parityKept, closeKept, blockFault}
 use Rattle.subdata.proofs.Judged.{pack-small}
 
@@ -74,15 +74,15 @@ zeros-are (x ∷ l) e =
     cc (eqb-true x 0 (p .0), zeros-are l (p .1))
 
 -- What a block gives back of the places it was made of.
-pub data-made : (area pack block : ℕ) (places : List ℕ) → dataIn (blockOf area pack block places) ≡ dataOf pack places
+pub data-part-made : (area pack block : ℕ) (places : List ℕ) → dataPartIn (blockOf area pack block places) ≡ dataPartOf pack places
 unfolding blockOf headerOf
-data-made area pack block places = refl
+data-part-made area pack block places = refl
 
 pub sw2-made-in : (area pack block : ℕ) (places : List ℕ) → sw2In (blockOf area pack block places) ≡ sw2Of pack block
 unfolding blockOf headerOf
 sw2-made-in area pack block places = refl
 
-close-made : (pack : ℕ) (places : List ℕ) → length places ≡ 32 → cond (eqb pack 6) (zeros (drop 24 (dataOf pack places))) true ≡ true
+close-made : (pack : ℕ) (places : List ℕ) → length places ≡ 32 → cond (eqb pack 6) (zeros (drop 24 (dataPartOf pack places))) true ≡ true
 close-made pack places long = by (eqb pack 6) refl
   where
     by : (b : Bool) → eqb pack 6 ≡ b → cond b (zeros (drop 24 (take 24 places ++ cond b (replicate 8 0) (drop 24 places)))) true ≡ true
@@ -125,8 +125,8 @@ sound area number block e =
     }
 
 -- A data part whose close is kept is the one that is made of it.
-data-again : (pack : ℕ) (rest : List ℕ) → length rest ≡ 32 → cond (eqb pack 6) (zeros (drop 24 rest)) true ≡ true → dataOf pack rest ≡ rest
-data-again pack rest long e = by (eqb pack 6) refl e
+data-part-again : (pack : ℕ) (rest : List ℕ) → length rest ≡ 32 → cond (eqb pack 6) (zeros (drop 24 rest)) true ≡ true → dataPartOf pack rest ≡ rest
+data-part-again pack rest long e = by (eqb pack 6) refl e
   where
     by : (b : Bool) → eqb pack 6 ≡ b → cond b (zeros (drop 24 rest)) true ≡ true → take 24 rest ++ cond b (replicate 8 0) (drop 24 rest) ≡ rest
     by true x h =
@@ -137,7 +137,7 @@ data-again pack rest long e = by (eqb pack 6) refl e
 
 -- A block without a fault is the one that is made of what it holds.
 pub block-again : (area number : ℕ) (block : List ℕ) → length block ≡ 35 → Sound area number block
-    → blockOf area (packOf (sw2In block)) number (dataIn block) ≡ block
+    → blockOf area (packOf (sw2In block)) number (dataPartIn block) ≡ block
 unfolding blockOf headerOf
 block-again area number [] long s = absurd (omega arith)
 block-again area number (a ∷ []) long s = absurd (omega arith)
@@ -145,4 +145,4 @@ block-again area number (a ∷ b ∷ []) long s = absurd (omega arith)
 block-again area number (a ∷ b ∷ c ∷ rest) long s =
     let e : sw1Of area number ≡ a = sw1-again area number a (s .sw1) in
     let f : sw2Of (packOf b) number ≡ b = sw2-again number b (sw2-apart number b (s .sw2)) in
-    rw (e, f, ← s .parity, data-again (packOf b) rest (omega arith) (s .close))
+    rw (e, f, ← s .parity, data-part-again (packOf b) rest (omega arith) (s .close))

@@ -13,22 +13,22 @@ use Rattle.group.specs.Sizes.{between}
 use Rattle.group.proofs.Tests.{both}
 use Rattle.subdata.specs.declared.TrackAnswer.{TrackAnswer}
 use Rattle.subdata.specs.declared.TrackAnswer.the-variants.{Accepted}
-use Rattle.subdata.specs.Sizes.{part, inTurn}
+use Rattle.subdata.specs.Sizes.{chunk, inTurn}
 use Rattle.subdata.specs.Header.{even, areaKept, packOf, packKept, sw1Kept, packIn}
-use Rattle.subdata.specs.Blocks.{placesIn, dataOf, blockOf, trackOf, blockAt, sw1In, sw2In, dataIn, packsOf, itemsOf}
+use Rattle.subdata.specs.Blocks.{placesIn, dataPartOf, blockOf, trackOf, blockAt, sw1In, sw2In, dataPartIn, packsOf, itemsOf}
 use Rattle.subdata.specs.Answer.{blockFault, readCall, makeCall, left}
-use Rattle.subdata.specs.Trip.{Makes, Reads, itemsKept}
-use Rattle.subdata.proofs.Turns.{turns-same, turns-parts, part-of-turns, length-turns, get-of-turns}
-use Rattle.subdata.proofs.BlockLaws.{length-places, length-block-at, length-data-at, blocks-wide}
+use Rattle.subdata.specs.Trip.{Makes, Reads, itemsGivenBack}
+use Rattle.subdata.proofs.Turns.{turns-same, turns-chunks, chunk-of-turns, length-turns, get-of-turns}
+use Rattle.subdata.proofs.BlockLaws.{length-places, length-block-at, length-data-part-at, blocks-wide}
 use Rattle.subdata.proofs.Judged.{MakeKept, ReadKept, make-kept, make-accepts, pack-right, read-kept, read-accepts, pack-is-kept, pack-small}
-use Rattle.subdata.proofs.OneBlock.{pack-taken, sw2-apart, data-made, sw2-made-in, made-kept, Sound, sound, block-again}
+use Rattle.subdata.proofs.OneBlock.{pack-taken, sw2-apart, data-part-made, sw2-made-in, made-kept, Sound, sound, block-again}
 
 -- Pack IDs one by one.
 one-by-one : (packs : List ℕ) → length packs ≡ 8 → inTurn (λ (k : ℕ). getD packs k 0 ∷ []) 0 8 ≡ packs
 one-by-one packs long =
-    turns-same (λ (k : ℕ). getD packs k 0 ∷ []) (part 1 packs) 0 8 one ∙ turns-parts 1 8 packs (long ∙ omega arith)
+    turns-same (λ (k : ℕ). getD packs k 0 ∷ []) (chunk 1 packs) 0 8 one ∙ turns-chunks 1 8 packs (long ∙ omega arith)
   where
-    one : (k : ℕ) → k < 0 + 8 → getD packs k 0 ∷ [] ≡ part 1 packs k
+    one : (k : ℕ) → k < 0 + 8 → getD packs k 0 ∷ [] ≡ chunk 1 packs k
     one k less =
         let place : 1 * k ≡ k = omega arith in
         sym (ap (λ (n : ℕ). take 1 (drop n packs)) place ∙ ap (take 1) (drop-cons packs k 0 (omega arith)))
@@ -44,7 +44,7 @@ pack-of-even packs k =
 module _ (area : ℕ) (packs items : List ℕ) (track numbers : ℕ) (m : MakeKept area packs (length items) track numbers) where
   block-made : (block : ℕ) → block < 16 → blockAt (trackOf area packs items) block ≡ blockOf area (packIn packs block) block (placesIn items block)
   unfolding trackOf
-  block-made block less = part-of-turns _ 35 16 (blocks-wide area packs items (m .long .items)) block less
+  block-made block less = chunk-of-turns _ 35 16 (blocks-wide area packs items (m .long .items)) block less
 
   kept : (block : ℕ) → block < 16 → packKept block (packIn packs block) ≡ true
   kept block less = pack-is-kept packs block (m .each block less)
@@ -69,13 +69,13 @@ module _ (area : ℕ) (packs items : List ℕ) (track numbers : ℕ) (m : MakeKe
   unfolding trackOf
   length-made = length-turns _ 35 16 (blocks-wide area packs items (m .long .items)) 0 16 (omega arith)
 
-  items-made : itemsOf (trackOf area packs items) ≡ itemsKept packs items
-  unfolding itemsOf itemsKept
+  items-made : itemsOf (trackOf area packs items) ≡ itemsGivenBack packs items
+  unfolding itemsOf itemsGivenBack
   items-made = turns-same _ _ 0 16 each
     where
-      each : (block : ℕ) → block < 0 + 16 → dataIn (blockAt (trackOf area packs items) block) ≡ dataOf (packIn packs block) (placesIn items block)
+      each : (block : ℕ) → block < 0 + 16 → dataPartIn (blockAt (trackOf area packs items) block) ≡ dataPartOf (packIn packs block) (placesIn items block)
       each block less =
-          ap dataIn (block-made block (omega arith)) ∙ data-made area (packIn packs block) block (placesIn items block)
+          ap dataPartIn (block-made block (omega arith)) ∙ data-part-made area (packIn packs block) block (placesIn items block)
 
 -- A track that reading accepts: its blocks are those that are made of what they hold.
 module _ (area : ℕ) (track : List ℕ) (packs items numbers : ℕ) (r : ReadKept area track packs items numbers) where
@@ -98,13 +98,13 @@ module _ (area : ℕ) (track : List ℕ) (packs items numbers : ℕ) (r : ReadKe
           ∙ ap (λ (n : ℕ). packOf (sw2In (blockAt track n))) whole
       by false x h = sym (eqb-true (packOf (sw2In (blockAt track block))) 0 h)
 
-  places-held : (block : ℕ) → block < 16 → placesIn (itemsOf track) block ≡ dataIn (blockAt track block)
+  places-held : (block : ℕ) → block < 16 → placesIn (itemsOf track) block ≡ dataPartIn (blockAt track block)
   unfolding itemsOf
-  places-held block less = part-of-turns _ 32 16 (length-data-at track (r .long .track)) block less
+  places-held block less = chunk-of-turns _ 32 16 (length-data-part-at track (r .long .track)) block less
 
   track-again : trackOf area (packsOf track) (itemsOf track) ≡ track
   unfolding trackOf
-  track-again = turns-same _ (blockAt track) 0 16 each ∙ turns-parts 35 16 track (r .long .track)
+  track-again = turns-same _ (blockAt track) 0 16 each ∙ turns-chunks 35 16 track (r .long .track)
     where
       each : (block : ℕ) → block < 0 + 16 → blockOf area (packIn (packsOf track) block) block (placesIn (itemsOf track) block) ≡ blockAt track block
       each block h =
@@ -122,7 +122,7 @@ module _ (area : ℕ) (track : List ℕ) (packs items numbers : ℕ) (r : ReadKe
 
   length-items : length (itemsOf track) ≡ 512
   unfolding itemsOf
-  length-items = length-turns _ 32 16 (length-data-at track (r .long .track)) 0 16 (omega arith)
+  length-items = length-turns _ 32 16 (length-data-part-at track (r .long .track)) 0 16 (omega arith)
 
   may-be-made : (t n : ℕ) → t ≡ 560 → n ≡ 256 → MakeKept area (packsOf track) (length (itemsOf track)) t n
   may-be-made t n e f =
@@ -140,7 +140,7 @@ filled a new old now e f = f ∙ ap (λ (b : TrackAnswer). left b new old) e
 pub subdata-returned : (area frame : ℕ) (packs items old old′ track numbers : List ℕ) → Makes area frame packs items old old′ Accepted track numbers
     → (lent lent′ lent″ : List ℕ) → length lent ≡ 8 → length lent′ ≡ 512 → length lent″ ≡ 256
     → (a : TrackAnswer) (packs′ items′ numbers′ : List ℕ) → Reads area frame track lent lent′ lent″ a packs′ items′ numbers′
-    → (a ≡ Accepted) × ((packs′ ≡ packs) × ((items′ ≡ itemsKept packs items) × (numbers′ ≡ numbers)))
+    → (a ≡ Accepted) × ((packs′ ≡ packs) × ((items′ ≡ itemsGivenBack packs items) × (numbers′ ≡ numbers)))
 subdata-returned area frame packs items old old′ track numbers w lent lent′ lent″ l l′ l″ a packs′ items′ numbers′ r =
     let m = make-kept area packs (length items) (length old) (length old′) (sym (w .answer)) in
     let long : length (trackOf area packs items) ≡ 560 = length-made area packs items _ _ m in

@@ -1,4 +1,4 @@
--- Laws of lists that are said part by part: a part of what was made in turn, a list from its parts, and loops that fill one.
+-- Laws of lists that are said chunk by chunk: a chunk of what was made in turn, a list from its chunks, and loops that fill one.
 -- Assumes nothing.
 use mathlib.Core.Path.{_≡_, refl, sym, ap, _∙_}
 use mathlib.Core.List.{List, [], _∷_, _++_, append-nil}
@@ -10,7 +10,7 @@ use lib.ListN.{length, getD, take, drop, length-append, length-drop}
 use lib.Seq.{length-take-le, take-at, take-add, drop-drop, take-nil, drop-length, drop-append-add, take-all}
 use Rattle.group.specs.Store.{put}
 use Rattle.group.proofs.Stores.{put-none, put-split, put-put}
-use Rattle.subdata.specs.Sizes.{part, inTurn}
+use Rattle.subdata.specs.Sizes.{chunk, inTurn}
 
 -- What follows the first n of n + m.
 pub drop-take : (n m : ℕ) (l : List ℕ) → drop n (take (n + m) l) ≡ take m (drop n l)
@@ -39,16 +39,16 @@ turns-same f g i zero h = refl
 turns-same f g i (suc n) h =
     rw (h i (omega arith), turns-same f g (suc i) n (λ k less. h k (omega arith)))
 
--- A list from its parts.
-turns-from : (width : ℕ) (s : List ℕ) (i n : ℕ) → inTurn (part width s) i n ≡ take (width * n) (drop (width * i) s)
+-- A list from its chunks.
+turns-from : (width : ℕ) (s : List ℕ) (i n : ℕ) → inTurn (chunk width s) i n ≡ take (width * n) (drop (width * i) s)
 unfolding inTurn
 turns-from width s i zero = rw (mul-zero width)
 turns-from width s i (suc n) =
     let more : width * suc n ≡ width + width * n = omega (arith, mul-suc width n) in
     rw (turns-from width s (suc i) n, more, take-add width (width * n) (drop (width * i) s), drop-drop width (width * i) s, mul-suc width i)
 
-pub turns-parts : (width n : ℕ) (s : List ℕ) → length s ≡ width * n → inTurn (part width s) 0 n ≡ s
-turns-parts width n s h = turns-from width s 0 n ∙ rw (mul-zero width) (take-all (width * n) s (omega arith))
+pub turns-chunks : (width n : ℕ) (s : List ℕ) → length s ≡ width * n → inTurn (chunk width s) 0 n ≡ s
+turns-chunks width n s h = turns-from width s 0 n ∙ rw (mul-zero width) (take-all (width * n) s (omega arith))
 
 -- Turns that give lists of one width.
 abbrev pub Wide : (ℕ → List ℕ) → ℕ → ℕ → Type 0
@@ -61,18 +61,18 @@ module _ (f : ℕ → List ℕ) (width count : ℕ) (wide : Wide f width count) 
   length-turns i (suc n) h =
       simp length-append (omega (arith, wide i (omega arith), length-turns (suc i) n (omega arith), mul-suc width n))
 
-  part-from : (i n k : ℕ) → i + n ≤ count → k < n → part width (inTurn f i n) k ≡ f (i + k)
+  chunk-from : (i n k : ℕ) → i + n ≤ count → k < n → chunk width (inTurn f i n) k ≡ f (i + k)
   unfolding inTurn
-  part-from i zero k h less = absurd (not-suc-le-zero less)
-  part-from i (suc n) zero h less =
+  chunk-from i zero k h less = absurd (not-suc-le-zero less)
+  chunk-from i (suc n) zero h less =
       rw (mul-zero width, add-zero i) (take-at (f i) (inTurn f (suc i) n) width (wide i (omega arith)))
-  part-from i (suc n) (suc k) h less =
+  chunk-from i (suc n) (suc k) h less =
       let place : width * suc k ≡ length (f i) + width * k = omega (arith, wide i (omega arith), mul-suc width k) in
-      rw (place, drop-append-add (f i) (inTurn f (suc i) n) (width * k), part-from (suc i) n k (omega arith) (le-of-suc-le-suc less), suc-add i k, add-suc i k)
+      rw (place, drop-append-add (f i) (inTurn f (suc i) n) (width * k), chunk-from (suc i) n k (omega arith) (le-of-suc-le-suc less), suc-add i k, add-suc i k)
 
-  -- A part of what was made in turn is what that turn gave.
-  pub part-of-turns : (k : ℕ) → k < count → part width (inTurn f 0 count) k ≡ f k
-  part-of-turns k h = part-from 0 count k (omega arith) h ∙ ap f (zero-add k)
+  -- A chunk of what was made in turn is what that turn gave.
+  pub chunk-of-turns : (k : ℕ) → k < count → chunk width (inTurn f 0 count) k ≡ f k
+  chunk-of-turns k h = chunk-from 0 count k (omega arith) h ∙ ap f (zero-add k)
 
 -- A loop that stores, at each turn k, what f gives there: what is stored and what is left to store are all of it.
 pub record Filled (f : ℕ → List ℕ) (width count : ℕ) (old now : List ℕ) (k : ℕ) : Type 0 where

@@ -4,30 +4,30 @@ use Prim.Native.Nat.{ℕ, zero, suc, _*_}
 use mathlib.Core.List.{List, [], _++_}
 use lib.ListN.{take, drop}
 
--- "There shall be 16 such Sub Data Blocks per track."
+-- 9.4.9: "There shall be 16 such Sub Data Blocks per track."
 abbrev pub blockCount : ℕ
 blockCount = 16
 
--- "A Sub Data Block shall consist of thirty five 8-bit bytes."
+-- 9.4.9: "A Sub Data Block shall consist of thirty five 8-bit bytes."
 abbrev pub blockLength : ℕ
 blockLength = 35
 
--- "a 3-byte Header"
+-- 9.4.9: "a 3-byte Header"
 abbrev pub headerLength : ℕ
 headerLength = 3
 
--- Then the Data Part: four places, three Pack Items and the close, of 8 bytes each.
+-- 9.4.9.2: then the Data Part, four places of 8 bytes each: three Pack Items and the close.
 abbrev pub itemLength : ℕ
 itemLength = 8
 
-abbrev pub dataLength : ℕ
-dataLength = 32
+abbrev pub dataPartLength : ℕ
+dataPartLength = 32
 
 -- Place 4b + p of a track is place p of block b.
 abbrev pub placeCount : ℕ
 placeCount = 64
 
--- The track: 16 blocks.
+-- 2026-01, the slices: the track, 16 blocks.
 abbrev pub trackLength : ℕ
 trackLength = 560
 
@@ -43,9 +43,9 @@ itemsLength = 512
 abbrev pub numbersLength : ℕ
 numbersLength = 256
 
--- The k-th of the parts of one width that a list is cut into.
-abbrev pub part : ℕ → List ℕ → ℕ → List ℕ
-part width list k = take width (drop (width * k) list)
+-- The k-th of the chunks of one width that a list is cut into.
+abbrev pub chunk : ℕ → List ℕ → ℕ → List ℕ
+chunk width list k = take width (drop (width * k) list)
 
 -- What f gives at each of n numbers from i, one after another.
 unfoldable pub inTurn : (ℕ → List ℕ) → ℕ → ℕ → List ℕ

@@ -7,7 +7,7 @@ use lib.ListN.{length}
 use Rattle.subdata.specs.declared.TrackAnswer.{TrackAnswer}
 use Rattle.subdata.specs.Sizes.{blockCount, inTurn}
 use Rattle.subdata.specs.Header.{packIn}
-use Rattle.subdata.specs.Blocks.{placesIn, dataOf, trackOf, packsOf, itemsOf}
+use Rattle.subdata.specs.Blocks.{placesIn, dataPartOf, trackOf, packsOf, itemsOf}
 use Rattle.subdata.specs.Items.{numbersOf}
 use Rattle.subdata.specs.Answer.{makeCall, readCall, left}
 
@@ -25,5 +25,5 @@ pub record Reads (area frame : ℕ) (track old old′ old″ : List ℕ) (a : Tr
   pub numbers-left : numbers ≡ left a (numbersOf area frame) old″
 
 -- The items that were lent, with zeros at the close of each block with Pack ID 6.
-unfoldable pub itemsKept : List ℕ → List ℕ → List ℕ
-itemsKept packs items = inTurn (λ (block : ℕ). dataOf (packIn packs block) (placesIn items block)) 0 blockCount
+unfoldable pub itemsGivenBack : List ℕ → List ℕ → List ℕ
+itemsGivenBack packs items = inTurn (λ (block : ℕ). dataPartOf (packIn packs block) (placesIn items block)) 0 blockCount

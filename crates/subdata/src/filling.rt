@@ -3,7 +3,7 @@ ghost use mathlib.Core.Path.{_≡_};
 ghost use Prim.Native.Nat.{_+_, _<_, _≤_};
 ghost use lib.ListN.{length};
 ghost use Rattle.group.specs.Store.{put};
-ghost use Rattle.subdata.specs.Sizes.{trackLength, packsLength, itemsLength, blockLength, dataLength, itemLength};
+ghost use Rattle.subdata.specs.Sizes.{trackLength, packsLength, itemsLength, blockLength, dataPartLength, itemLength};
 ghost use Rattle.subdata.specs.Header.{headerOf};
 ghost use Rattle.subdata.specs.Blocks.{closeOf, blockOf, trackOf, packsOf, itemsOf};
 ghost use Rattle.subdata.specs.Bounds.{PacksKept};
@@ -37,7 +37,7 @@ fn put_close(track: &mut [u8], at: usize, pack: u8, close: &[u8])
 
 // One block from index `at` on, from the four places that are lent.
 fn put_block(track: &mut [u8], at: usize, area: u32, pack: u8, block: u8, places: &[u8])
-    requires { ⌜ (at + blockLength ≤ length (now track)) × (length (now places) ≡ dataLength) ⌝ }
+    requires { ⌜ (at + blockLength ≤ length (now track)) × (length (now places) ≡ dataPartLength) ⌝ }
     requires { ⌜ (area < 16) × ((pack < 8) × (block < 16)) ⌝ }
     ensures { λ _. ⌜ now (track .exit) ≡ put (now (track .entry)) at (blockOf area pack block (now (places .entry))) ⌝ }
 {
@@ -55,8 +55,8 @@ pub(crate) fn put_track(track: &mut [u8], area: u32, packs: &[u8], items: &[u8])
     let mut block: u8 = 0;
     while block < Track::BLOCKS {
         let pack = header::pack_in(packs, block);
-        let from = Track::DATA_LENGTH * (block as usize);
-        let to = from + Track::DATA_LENGTH;
+        let from = Track::DATA_PART_LENGTH * (block as usize);
+        let to = from + Track::DATA_PART_LENGTH;
         put_block(
             track,
             Track::BLOCK_LENGTH * (block as usize),
@@ -90,10 +90,10 @@ pub(crate) fn put_items(items: &mut [u8], track: &[u8])
     let mut block: u8 = 0;
     while block < Track::BLOCKS {
         let from = Track::BLOCK_LENGTH * (block as usize) + 3;
-        let to = from + Track::DATA_LENGTH;
+        let to = from + Track::DATA_PART_LENGTH;
         group::bytes::put_bytes(
             items,
-            Track::DATA_LENGTH * (block as usize),
+            Track::DATA_PART_LENGTH * (block as usize),
             &track[from..to],
         );
         block += 1;

@@ -35,7 +35,7 @@ fn row_of(area: u32, frame: u32) -> usize
     if tape_area != Track::SYSTEM_AREA {
         return 4;
     }
-    if !group::state::is_between(71, frame, 95) {
+    if !group::state::is_between(Track::LOG_FIRST, frame, Track::LOG_LAST) {
         return 4;
     }
     2

@@ -11,7 +11,8 @@ ghost use Rattle.subdata.specs.Blocks.{trackOf, packsOf, itemsOf};
 ghost use Rattle.subdata.specs.Items.{numbersOf};
 ghost use Rattle.subdata.specs.Answer.{makeCall, readCall, left};
 
-// A track: its tape areas (an Area ID without its first bit), its blocks and places, and the lengths of what is lent for it.
+// A track: its tape areas (an Area ID without its first bit), the frames of the log, its blocks and places, and the lengths of
+// what is lent for it.
 pub struct Track {}
 
 // What making and reading answer.
@@ -29,13 +30,17 @@ impl Track {
 
     pub const EOD_AREA: u32 = 5;
 
+    pub const LOG_FIRST: u32 = 71;
+
+    pub const LOG_LAST: u32 = 95;
+
     pub const BLOCKS: u8 = 16;
 
     pub const PLACES: usize = 64;
 
     pub const ITEM_LENGTH: usize = 8;
 
-    pub const DATA_LENGTH: usize = 32;
+    pub const DATA_PART_LENGTH: usize = 32;
 
     pub const BLOCK_LENGTH: usize = 35;
 

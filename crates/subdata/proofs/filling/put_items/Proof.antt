@@ -5,19 +5,19 @@ use Prim.Native.Nat.{ℕ, _+_, _*_, _-_}
 use native.Mathlib.Omega.{arith}
 use lib.ListN.{take, drop}
 use Rattle.group.specs.Store.{put}
-use Rattle.subdata.specs.Blocks.{blockAt, dataIn, itemsOf}
+use Rattle.subdata.specs.Blocks.{blockAt, dataPartIn, itemsOf}
 use Rattle.subdata.proofs.Turns.{between-ends, length-between, Filled, filled-none, filled-turn, filled-done}
-use Rattle.subdata.proofs.BlockLaws.{data-between, length-data-at}
+use Rattle.subdata.proofs.BlockLaws.{data-part-between, length-data-part-at}
 use Rattle.subdata.proofs.filling.put_items.Statement.{statement}
 use Rattle.subdata.proofs.filling.put_items.Tie as tie
 
 -- What stands at the places of each block.
 abbrev stands : List ℕ → ℕ → List ℕ
-stands track block = dataIn (blockAt track block)
+stands track block = dataPartIn (blockAt track block)
 
 stored : (block : ℕ) (track now after : List ℕ) → after ≡ put now (32 * block) (take (35 * block + 3 + 32 - (35 * block + 3)) (drop (35 * block + 3) track))
     → after ≡ put now (32 * block) (stands track block)
-stored block track now after e = e ∙ ap (put now (32 * block)) (between-ends (35 * block + 3) 32 track ∙ sym (data-between track block))
+stored block track now after e = e ∙ ap (put now (32 * block)) (between-ends (35 * block + 3) 32 track ∙ sym (data-part-between track block))
 
 abbrev Inv-loop : tie.InvT-loop
 Inv-loop items₀ track block₀ items block = Filled (stands track) 32 16 items₀ items block
@@ -31,7 +31,7 @@ loop-again c =
     let t = p .before .before .before in
     let l = t .before in
     let s = l .before .before .before in
-    filled-turn _ 32 16 _ _ _ (l .loop .block) (t .loop-test .taken) (length-data-at (s .args .track .now) (s .pre .1) (l .loop .block) (t .loop-test .taken)) (p .put-bytes .kept .0)
+    filled-turn _ 32 16 _ _ _ (l .loop .block) (t .loop-test .taken) (length-data-part-at (s .args .track .now) (s .pre .1) (l .loop .block) (t .loop-test .taken)) (p .put-bytes .kept .0)
     (stored (l .loop .block) (s .args .track .now) _ _ (p .put-bytes .ensures)) (l .loop .inv)
 
 returns : tie.Need-returns Inv-loop μ-loop
@@ -39,7 +39,7 @@ unfolding itemsOf
 returns c =
     let l = c .before in
     let s = l .before .before .before in
-    filled-done _ 32 16 (length-data-at (s .args .track .now) (s .pre .1)) _ _ (l .loop .block) (omega arith) (s .pre .0) (l .loop .inv)
+    filled-done _ 32 16 (length-data-part-at (s .args .track .now) (s .pre .1)) _ _ (l .loop .block) (omega arith) (s .pre .0) (l .loop .inv)
 
 pub put-items-spec : {M : Type 1} → statement M
 put-items-spec =
