@@ -11,10 +11,9 @@ use lib.ListN.{length, getD}
 use Rattle.reader.specs.Answer.{inBytes}
 use Rattle.subdata.specs.declared.TrackAnswer.{TrackAnswer}
 use Rattle.subdata.specs.declared.TrackAnswer.the-variants.{Accepted}
-use Rattle.subdata.specs.Blocks.{trackOf, packsOf, itemsOf}
+use Rattle.subdata.specs.Blocks.{trackOf, packsOf, itemsOf, itemsGivenBack}
 use Rattle.subdata.specs.Items.{numbersOf}
-use Rattle.subdata.specs.Answer.{makeCall, readCall, left, told}
-use Rattle.subdata.specs.Trip.{Makes, Reads, itemsGivenBack}
+use Rattle.subdata.specs.Answer.{makeCall, readCall, left, told, Makes, Reads}
 use Rattle.subdata.proofs.Judged.{make-told, read-told}
 use Rattle.subdata.proofs.Theorems.{subdata-returned, subdata-only-made}
 use Rattle.dds.specs.Slices.{answerLength}

@@ -4,8 +4,7 @@ use mathlib.Core.Path.{_≡_, sym, ap, _∙_}
 use mathlib.Core.List.{List}
 use Prim.Native.Nat.{ℕ}
 use Rattle.subdata.specs.declared.TrackAnswer.{TrackAnswer}
-use Rattle.subdata.specs.Answer.{left}
-use Rattle.subdata.specs.Trip.{Makes, Reads}
+use Rattle.subdata.specs.Answer.{left, Makes, Reads}
 
 -- What two equal answers leave in a slice.
 same-left : (a b : TrackAnswer) (new old x y : List ℕ) → a ≡ b → x ≡ left a new old → y ≡ left b new old → x ≡ y

@@ -15,9 +15,8 @@ use Rattle.subdata.specs.declared.TrackAnswer.{TrackAnswer}
 use Rattle.subdata.specs.declared.TrackAnswer.the-variants.{Accepted}
 use Rattle.subdata.specs.Sizes.{chunk, inTurn}
 use Rattle.subdata.specs.Header.{even, areaKept, packOf, packKept, sw1Kept, packIn}
-use Rattle.subdata.specs.Blocks.{placesIn, dataPartOf, blockOf, trackOf, blockAt, sw1In, sw2In, dataPartIn, packsOf, itemsOf}
-use Rattle.subdata.specs.Answer.{blockFault, readCall, makeCall, left}
-use Rattle.subdata.specs.Trip.{Makes, Reads, itemsGivenBack}
+use Rattle.subdata.specs.Blocks.{placesIn, dataPartOf, blockOf, trackOf, blockAt, sw1In, sw2In, dataPartIn, packsOf, itemsOf, itemsGivenBack}
+use Rattle.subdata.specs.Answer.{blockFault, readCall, makeCall, left, Makes, Reads}
 use Rattle.subdata.proofs.Turns.{turns-same, turns-chunks, chunk-of-turns, length-turns, get-of-turns}
 use Rattle.subdata.proofs.BlockLaws.{length-places, length-block-at, length-data-part-at, blocks-wide}
 use Rattle.subdata.proofs.Judged.{MakeKept, ReadKept, make-kept, make-accepts, pack-right, read-kept, read-accepts, pack-is-kept, pack-small}

@@ -1,6 +1,7 @@
 -- Change request 2026-01: what making and reading a track answer, and what they leave in each lent slice, for every input.
 -- Assumes nothing.
 use Prim.Native.Nat.{ℕ, zero, suc}
+use mathlib.Core.Path.{_≡_}
 use mathlib.Core.List.{List, [], _∷_}
 use mathlib.Core.Bool.{Bool, true, cond, not, _&&_}
 use lib.Dec.{eqb}
@@ -9,7 +10,8 @@ use Rattle.subdata.specs.declared.TrackAnswer.{TrackAnswer}
 use Rattle.subdata.specs.declared.TrackAnswer.the-variants.{Accepted, Refused}
 use Rattle.subdata.specs.Sizes.{blockCount, trackLength, packsLength, itemsLength, numbersLength}
 use Rattle.subdata.specs.Header.{areaKept, parityOf, packOf, packKept, sw1Kept, sw2Kept, packIn}
-use Rattle.subdata.specs.Blocks.{blockAt, sw1In, sw2In, parityIn, closeIn, zeros}
+use Rattle.subdata.specs.Blocks.{trackOf, blockAt, sw1In, sw2In, parityIn, closeIn, packsOf, itemsOf, zeros}
+use Rattle.subdata.specs.Items.{numbersOf}
 
 -- 30: the buffers are of their lengths.
 unfoldable pub lengthsKept : ℕ → ℕ → ℕ → ℕ → Bool
@@ -60,6 +62,19 @@ readCall area track packs items numbers =
 abbrev pub left : TrackAnswer → List ℕ → List ℕ → List ℕ
 left Accepted new old = new
 left (Refused number place) new old = old
+
+-- Making a track: what it answers, and what it leaves in the track's slice and the numbers' in place of `old` and `old′`.
+pub record Makes (area frame : ℕ) (packs items old old′ : List ℕ) (a : TrackAnswer) (track numbers : List ℕ) : Type 0 where
+  pub answer : a ≡ makeCall area packs (length items) (length old) (length old′)
+  pub track-left : track ≡ left a (trackOf area packs items) old
+  pub numbers-left : numbers ≡ left a (numbersOf area frame) old′
+
+-- Reading a track: what it answers, and what it leaves in the slices of the Pack IDs, the items and the numbers.
+pub record Reads (area frame : ℕ) (track old old′ old″ : List ℕ) (a : TrackAnswer) (packs items numbers : List ℕ) : Type 0 where
+  pub answer : a ≡ readCall area track (length old) (length old′) (length old″)
+  pub packs-left : packs ≡ left a (packsOf track) old
+  pub items-left : items ≡ left a (itemsOf track) old′
+  pub numbers-left : numbers ≡ left a (numbersOf area frame) old″
 
 -- The numbers that the firmware sees of each case: refusal, place and four zeros.
 abbrev pub told : TrackAnswer → List ℕ

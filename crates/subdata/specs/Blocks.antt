@@ -55,6 +55,11 @@ packsOf track = inTurn (λ (k : ℕ). packOf (sw2In (blockAt track (2 * k))) ∷
 unfoldable pub itemsOf : List ℕ → List ℕ
 itemsOf track = inTurn (λ (block : ℕ). dataPartIn (blockAt track block)) 0 blockCount
 
+-- What reading gives back of the items that a track was made of: zeros at the close of each block with Pack ID 6.
+unfoldable pub itemsGivenBack : List ℕ → List ℕ → List ℕ
+itemsGivenBack packs items =
+    inTurn (λ (block : ℕ). dataPartOf (packIn packs block) (placesIn items block)) 0 blockCount
+
 -- Each byte is zero.
 abbrev pub zeros : List ℕ → Bool
 zeros [] = true

@@ -5,11 +5,7 @@ mod filling;
 mod header;
 mod items;
 
-ghost use mathlib.Core.Path.{_≡_};
-ghost use lib.ListN.{length};
-ghost use Rattle.subdata.specs.Blocks.{trackOf, packsOf, itemsOf};
-ghost use Rattle.subdata.specs.Items.{numbersOf};
-ghost use Rattle.subdata.specs.Answer.{makeCall, readCall, left};
+ghost use Rattle.subdata.specs.Answer.{Makes, Reads};
 
 // A track: its tape areas (an Area ID without its first bit), the frames of the log, its blocks and places, and the lengths of
 // what is lent for it.
@@ -61,9 +57,7 @@ impl Track {
         track: &mut [u8],
         numbers: &mut [u8],
     ) -> TrackAnswer
-        ensures answer { λ r. ⌜ r ≡ makeCall area (now (packs .entry)) (length (now (items .entry))) (length (now (track .entry))) (length (now (numbers .entry))) ⌝ }
-        ensures track { λ r. ⌜ now (track .exit) ≡ left r (trackOf area (now (packs .entry)) (now (items .entry))) (now (track .entry)) ⌝ }
-        ensures numbers { λ r. ⌜ now (numbers .exit) ≡ left r (numbersOf area frame) (now (numbers .entry)) ⌝ }
+        ensures { λ r. ⌜ Makes area frame (now (packs .entry)) (now (items .entry)) (now (track .entry)) (now (numbers .entry)) r (now (track .exit)) (now (numbers .exit)) ⌝ }
     {
         let answer = blocks::judge_making(area, packs, items.len(), track.len(), numbers.len());
         match answer {
@@ -88,10 +82,7 @@ impl Track {
         items: &mut [u8],
         numbers: &mut [u8],
     ) -> TrackAnswer
-        ensures answer { λ r. ⌜ r ≡ readCall area (now (track .entry)) (length (now (packs .entry))) (length (now (items .entry))) (length (now (numbers .entry))) ⌝ }
-        ensures packs { λ r. ⌜ now (packs .exit) ≡ left r (packsOf (now (track .entry))) (now (packs .entry)) ⌝ }
-        ensures items { λ r. ⌜ now (items .exit) ≡ left r (itemsOf (now (track .entry))) (now (items .entry)) ⌝ }
-        ensures numbers { λ r. ⌜ now (numbers .exit) ≡ left r (numbersOf area frame) (now (numbers .entry)) ⌝ }
+        ensures { λ r. ⌜ Reads area frame (now (track .entry)) (now (packs .entry)) (now (items .entry)) (now (numbers .entry)) r (now (packs .exit)) (now (items .exit)) (now (numbers .exit)) ⌝ }
     {
         let answer = blocks::judge_reading(area, track, packs.len(), items.len(), numbers.len());
         match answer {

@@ -8,7 +8,7 @@ answers : tie.Need-returns-2
 answers c =
     let f = c .before .before in
     let m = f .before .before .before .before .before .before in
-    make-done _ _ _ _ _ _ _ _ _ _ _ _ (m .before .before .before .if1 .left) (m .make .ensures .0) (f .finish .ensures .0) (m .make .ensures .1 .0) (m .make .ensures .1 .1) (f .finish .ensures .1)
+    make-done _ _ _ _ _ _ _ _ _ _ _ _ (m .before .before .before .if1 .left) (m .make .ensures .answer) (f .finish .ensures .0) (m .make .ensures .track-left) (m .make .ensures .numbers-left) (f .finish .ensures .1)
 
 pub dds-subdata-make-spec : {M : Type 1} → statement M
 dds-subdata-make-spec =

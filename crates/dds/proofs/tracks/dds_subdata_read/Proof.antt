@@ -8,7 +8,7 @@ answers : tie.Need-returns-2
 answers c =
     let f = c .before .before in
     let r = f .before .before .before .before .before .before .before .before in
-    read-done _ _ _ _ _ _ _ _ _ _ _ _ _ (r .before .before .before .before .if1 .left) (r .read .ensures .0) (f .finish .ensures .0) (r .read .ensures .1 .0) (r .read .ensures .1 .1 .0) (r .read .ensures .1 .1 .1) (f .finish .ensures .1)
+    read-done _ _ _ _ _ _ _ _ _ _ _ _ _ (r .before .before .before .before .if1 .left) (r .read .ensures .answer) (f .finish .ensures .0) (r .read .ensures .packs-left) (r .read .ensures .items-left) (r .read .ensures .numbers-left) (f .finish .ensures .1)
 
 pub dds-subdata-read-spec : {M : Type 1} → statement M
 dds-subdata-read-spec =

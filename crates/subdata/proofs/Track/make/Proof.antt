@@ -27,5 +27,14 @@ make-spec =
     let n = c .before .before in
     let t = n .before .before .before .before in
     let e = t .before .before in
-    (e .before .before .judge-making .ensures, (rw (e .enum-told .given .1) (t .put-track .ensures), rw (e .enum-told .given .1) (n .put-numbers .ensures))))
-    (λ c. (c .before .before .judge-making .ensures, (rw (c .enum-told2 .given .1), rw (c .enum-told2 .given .1)))))
+    record {
+      answer = e .before .before .judge-making .ensures;
+      track-left = rw (e .enum-told .given .1) (t .put-track .ensures);
+      numbers-left = rw (e .enum-told .given .1) (n .put-numbers .ensures);
+    })
+    (λ c.
+    record {
+      answer = c .before .before .judge-making .ensures;
+      track-left = rw (c .enum-told2 .given .1);
+      numbers-left = rw (c .enum-told2 .given .1);
+    }))

@@ -28,5 +28,16 @@ read-spec =
     let i = n .before .before .before .before in
     let p = i .before .before .before .before in
     let e = p .before .before in
-    (e .before .before .judge-reading .ensures, (rw (e .enum-told .given .1) (p .put-packs .ensures), (rw (e .enum-told .given .1) (i .put-items .ensures), rw (e .enum-told .given .1) (n .put-numbers .ensures)))))
-    (λ c. (c .before .before .judge-reading .ensures, (rw (c .enum-told2 .given .1), (rw (c .enum-told2 .given .1), rw (c .enum-told2 .given .1))))))
+    record {
+      answer = e .before .before .judge-reading .ensures;
+      packs-left = rw (e .enum-told .given .1) (p .put-packs .ensures);
+      items-left = rw (e .enum-told .given .1) (i .put-items .ensures);
+      numbers-left = rw (e .enum-told .given .1) (n .put-numbers .ensures);
+    })
+    (λ c.
+    record {
+      answer = c .before .before .judge-reading .ensures;
+      packs-left = rw (c .enum-told2 .given .1);
+      items-left = rw (c .enum-told2 .given .1);
+      numbers-left = rw (c .enum-told2 .given .1);
+    }))
