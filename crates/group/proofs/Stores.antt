@@ -1,14 +1,18 @@
--- Laws of `put`: what a store leaves before, at and after its place, and stores that meet.
+-- Laws of `put`: what a store leaves before, at and after its place, and stores that meet; and what zeros are.
 -- Assumes nothing.
 use mathlib.Core.Path.{_≡_, refl, sym, ap, _∙_}
+use mathlib.Core.Bool.{true}
 use mathlib.Core.List.{List, [], _∷_, _++_, append-assoc}
 use Prim.Native.Nat.{ℕ, zero, suc, _+_, _≤_, _<_, zero-le}
 use native.Mathlib.Numerals.{add-one, add-two, add-three}
 use native.Mathlib.Omega.{arith}
 use native.Mathlib.Nat.{add-zero}
-use lib.ListN.{length, getD, set, take, drop, length-set, length-append}
+use borrow.Author.Tests.{eqb-true}
+use lib.Dec.{eqb}
+use lib.ListN.{length, getD, set, take, drop, replicate, length-set, length-append}
 use lib.Seq.{length-sets, sets-eq, paste, paste-zero, paste-suc, take-length, take-set-le, drop-set-lt, length-take-le, drop-at, take-append-seam}
-use Rattle.group.specs.Store.{put}
+use Rattle.group.specs.Store.{put, zeros}
+use Rattle.group.proofs.Tests.{both}
 
 -- A store keeps the length, wherever it is.
 pub length-put : (old : List ℕ) (at : ℕ) (new : List ℕ) → length (put old at new) ≡ length old
@@ -110,3 +114,14 @@ pub stored-whole : {old new group : List ℕ} {at i : ℕ} → at + length new �
     → Stored old at new group i → group ≡ put old at new
 stored-whole {old} {new} {group} {at} {i} fits all s =
     s .same ∙ ap (λ (n : ℕ). paste old at new n) all ∙ rw (put-split old at new fits, take-length new)
+
+-- Zeros, and what they are.
+pub zeros-made : (n : ℕ) → zeros (replicate n 0) ≡ true
+zeros-made zero = refl
+zeros-made (suc n) = zeros-made n
+
+pub zeros-are : (bytes : List ℕ) → zeros bytes ≡ true → replicate (length bytes) 0 ≡ bytes
+zeros-are [] e = refl
+zeros-are (byte ∷ bytes) e =
+    let p = both (eqb byte 0) (zeros bytes) e in
+    cc (eqb-true byte 0 (p .0), zeros-are bytes (p .1))

@@ -1,8 +1,8 @@
-// Stores of many bytes into a group.
+// Stores of many bytes into a lent slice, and whether bytes are zeros.
 ghost use mathlib.Core.Path.{_≡_};
 ghost use Prim.Native.Nat.{_+_, _-_, _≤_};
 ghost use lib.ListN.{length, replicate};
-ghost use Rattle.group.specs.Store.{put};
+ghost use Rattle.group.specs.Store.{put, zeros};
 
 // All of data from index `at` on.
 pub fn put_bytes(group: &mut [u8], at: usize, data: &[u8])
@@ -27,4 +27,18 @@ pub fn put_zeros(group: &mut [u8], from: usize, to: usize)
         group[from + i] = 0;
         i += 1;
     }
+}
+
+// Whether each byte is zero.
+pub fn are_zeros(bytes: &[u8]) -> bool
+    ensures { λ r. ⌜ r ≡ zeros (now (bytes .entry)) ⌝ }
+{
+    let mut i: usize = 0;
+    while i < bytes.len() {
+        if bytes[i] != 0 {
+            return false;
+        }
+        i += 1;
+    }
+    true
 }

@@ -10,9 +10,11 @@ use borrow.Author.Tests.{eq-eqb, eqb-true, not-false}
 use lib.Dec.{eqb}
 use lib.ListN.{length, take, drop, replicate, take-append-drop, length-drop}
 use lib.Seq.{length-take-le, drop-at}
+use Rattle.group.specs.Store.{zeros}
 use Rattle.group.proofs.Tests.{both, and, passed}
+use Rattle.group.proofs.Stores.{zeros-made, zeros-are}
 use Rattle.subdata.specs.Header.{even, areaKept, sw1Of, sw2Of, parityOf, headerOf, packOf, packKept, sw1Kept, sw2Kept}
-use Rattle.subdata.specs.Blocks.{dataPartOf, blockOf, sw1In, sw2In, parityIn, dataPartIn, zeros}
+use Rattle.subdata.specs.Blocks.{dataPartOf, blockOf, sw1In, sw2In, parityIn, dataPartIn}
 use Rattle.subdata.specs.Answer.{parityKept, closeKept, blockFault}
 use Rattle.subdata.proofs.Judged.{pack-small}
 
@@ -61,17 +63,6 @@ sw2-apart block sw2 e =
 
 pub sw2-again : (block sw2 : ℕ) → Sw2 block sw2 → sw2Of (packOf sw2) block ≡ sw2
 sw2-again block sw2 s = omega (arith, s .top, s .number)
-
--- Zeros, and what they are.
-zeros-made : (n : ℕ) → zeros (replicate n 0) ≡ true
-zeros-made zero = refl
-zeros-made (suc n) = zeros-made n
-
-zeros-are : (l : List ℕ) → zeros l ≡ true → replicate (length l) 0 ≡ l
-zeros-are [] e = refl
-zeros-are (x ∷ l) e =
-    let p = both (eqb x 0) (zeros l) e in
-    cc (eqb-true x 0 (p .0), zeros-are l (p .1))
 
 -- What a block gives back of the places it was made of.
 pub data-part-made : (area pack block : ℕ) (places : List ℕ) → dataPartIn (blockOf area pack block places) ≡ dataPartOf pack places

@@ -6,11 +6,12 @@ use mathlib.Core.List.{List, [], _∷_}
 use mathlib.Core.Bool.{Bool, true, cond, not, _&&_}
 use lib.Dec.{eqb}
 use lib.ListN.{length}
+use Rattle.group.specs.Store.{zeros}
 use Rattle.subdata.specs.declared.TrackAnswer.{TrackAnswer}
 use Rattle.subdata.specs.declared.TrackAnswer.the-variants.{Accepted, Refused}
 use Rattle.subdata.specs.Sizes.{blockCount, trackLength, packsLength, itemsLength, numbersLength}
 use Rattle.subdata.specs.Header.{areaKept, parityOf, packOf, packKept, sw1Kept, sw2Kept, packIn}
-use Rattle.subdata.specs.Blocks.{trackOf, blockAt, sw1In, sw2In, parityIn, closeIn, packsOf, itemsOf, zeros}
+use Rattle.subdata.specs.Blocks.{trackOf, blockAt, sw1In, sw2In, parityIn, closeIn, packsOf, itemsOf}
 use Rattle.subdata.specs.Items.{numbersOf}
 
 -- 30: the buffers are of their lengths.

@@ -2,7 +2,7 @@
 -- Assumes nothing.
 use Prim.Native.Nat.{ℕ, _+_, _*_}
 use mathlib.Core.List.{List, [], _∷_, _++_}
-use mathlib.Core.Bool.{Bool, true, cond, _&&_}
+use mathlib.Core.Bool.{cond}
 use lib.Dec.{eqb}
 use lib.ListN.{getD, take, drop, replicate}
 use Rattle.subdata.specs.Sizes.{blockCount, blockLength, headerLength, itemLength, dataPartLength, packsLength, chunk, inTurn}
@@ -59,8 +59,3 @@ itemsOf track = inTurn (λ (block : ℕ). dataPartIn (blockAt track block)) 0 bl
 unfoldable pub itemsGivenBack : List ℕ → List ℕ → List ℕ
 itemsGivenBack packs items =
     inTurn (λ (block : ℕ). dataPartOf (packIn packs block) (placesIn items block)) 0 blockCount
-
--- Each byte is zero.
-abbrev pub zeros : List ℕ → Bool
-zeros [] = true
-zeros (byte ∷ bytes) = eqb byte 0 && zeros bytes

@@ -3,7 +3,6 @@ ghost use mathlib.Core.Path.{_≡_};
 ghost use Prim.Native.Nat.{_<_};
 ghost use lib.ListN.{length};
 ghost use Rattle.subdata.specs.Sizes.{blockLength};
-ghost use Rattle.subdata.specs.Blocks.{zeros};
 ghost use Rattle.subdata.specs.Answer.{lengthsKept, closeKept, blockFault, makeCall, readCall};
 use crate::Track;
 use crate::TrackAnswer;
@@ -25,20 +24,6 @@ fn lengths_kept(track: usize, packs: usize, items: usize, numbers: usize) -> boo
     numbers == Track::NUMBERS_LENGTH
 }
 
-// Whether each byte is zero.
-fn are_zeros(bytes: &[u8]) -> bool
-    ensures { λ r. ⌜ r ≡ zeros (now (bytes .entry)) ⌝ }
-{
-    let mut i: usize = 0;
-    while i < bytes.len() {
-        if bytes[i] != 0 {
-            return false;
-        }
-        i += 1;
-    }
-    true
-}
-
 // Whether a block closes in zeros where its Pack ID is 6.
 fn close_kept(block: &[u8]) -> bool
     requires { ⌜ length (now block) ≡ blockLength ⌝ }
@@ -47,7 +32,7 @@ fn close_kept(block: &[u8]) -> bool
     if header::pack_of(block[1]) != 6 {
         return true;
     }
-    are_zeros(&block[27..])
+    group::bytes::are_zeros(&block[27..])
 }
 
 // The number of a block's fault, 0 if it has none.

@@ -8,9 +8,9 @@ use native.Mathlib.Omega.{arith}
 use borrow.Author.Tests.{ne-eqb}
 use lib.ListN.{length, getD, drop}
 use lib.Seq.{drop-cons, drop-length}
-use Rattle.subdata.specs.Blocks.{zeros}
-use Rattle.subdata.proofs.blocks.are_zeros.Statement.{statement}
-use Rattle.subdata.proofs.blocks.are_zeros.Tie as tie
+use Rattle.group.specs.Store.{zeros}
+use Rattle.group.proofs.bytes.are_zeros.Statement.{statement}
+use Rattle.group.proofs.bytes.are_zeros.Tie as tie
 
 abbrev Inv-loop : tie.InvT-loop
 Inv-loop bytes i₀ i = (i ≤ length bytes) × (zeros (drop i bytes) ≡ zeros bytes)
