@@ -1,16 +1,17 @@
--- Laws of `put`: what a store leaves before, at and after its place, and stores that meet; and what zeros are.
+-- Laws of `put`: what a store leaves before, at and after its place, and stores that meet; then what a slice to the
+-- end holds, and what zeros are.
 -- Assumes nothing.
 use mathlib.Core.Path.{_≡_, refl, sym, ap, _∙_}
 use mathlib.Core.Bool.{true}
 use mathlib.Core.List.{List, [], _∷_, _++_, append-assoc}
-use Prim.Native.Nat.{ℕ, zero, suc, _+_, _≤_, _<_, zero-le}
+use Prim.Native.Nat.{ℕ, zero, suc, _+_, _-_, _≤_, _<_, zero-le}
 use native.Mathlib.Numerals.{add-one, add-two, add-three}
 use native.Mathlib.Omega.{arith}
 use native.Mathlib.Nat.{add-zero}
 use borrow.Author.Tests.{eqb-true}
 use lib.Dec.{eqb}
-use lib.ListN.{length, getD, set, take, drop, replicate, length-set, length-append}
-use lib.Seq.{length-sets, sets-eq, paste, paste-zero, paste-suc, take-length, take-set-le, drop-set-lt, length-take-le, drop-at, take-append-seam}
+use lib.ListN.{length, getD, set, take, drop, replicate, length-set, length-append, length-drop}
+use lib.Seq.{length-sets, sets-eq, paste, paste-zero, paste-suc, take-length, take-set-le, drop-set-lt, length-take-le, drop-at, take-append-seam, take-all}
 use Rattle.group.specs.Store.{put, zeros}
 use Rattle.group.proofs.Tests.{both}
 
@@ -114,6 +115,10 @@ pub stored-whole : {old new group : List ℕ} {at i : ℕ} → at + length new �
     → Stored old at new group i → group ≡ put old at new
 stored-whole {old} {new} {group} {at} {i} fits all s =
     s .same ∙ ap (λ (n : ℕ). paste old at new n) all ∙ rw (put-split old at new fits, take-length new)
+
+-- All that follows the first n.
+pub take-rest : (n : ℕ) (l : List ℕ) → take (length l - n) (drop n l) ≡ drop n l
+take-rest n l = take-all (length l - n) (drop n l) (omega (arith, length-drop n l))
 
 -- Zeros, and what they are.
 pub zeros-made : (n : ℕ) → zeros (replicate n 0) ≡ true

@@ -10,8 +10,8 @@ use lib.Dec.{eqb}
 use lib.ListN.{length, getD, take, drop, replicate, length-append, length-drop}
 use lib.Seq.{length-take-le, drop-drop, getD-take, getD-drop}
 use Rattle.group.specs.Store.{put}
-use Rattle.group.proofs.Stores.{put-put}
-use Rattle.subdata.proofs.Turns.{take-rest, drop-take, Wide}
+use Rattle.group.proofs.Stores.{put-put, take-rest}
+use Rattle.subdata.proofs.Turns.{drop-take, Wide}
 use Rattle.subdata.specs.Header.{headerOf, packIn}
 use Rattle.subdata.specs.Blocks.{placesIn, closeOf, dataPartOf, blockOf, blockAt, sw2In, dataPartIn}
 

@@ -18,10 +18,6 @@ drop-take zero m l = rw (zero-add m)
 drop-take (suc n) m [] = rw (suc-add n m) (sym (take-nil m))
 drop-take (suc n) m (x ∷ l) = rw (suc-add n m) (drop-take n m l)
 
--- All that follows the first n.
-pub take-rest : (n : ℕ) (l : List ℕ) → take (length l - n) (drop n l) ≡ drop n l
-take-rest n l = take-all (length l - n) (drop n l) (omega (arith, length-drop n l))
-
 -- What lies between two indices that are so far apart, and how long it is.
 pub between-ends : (from width : ℕ) (l : List ℕ) → take (from + width - from) (drop from l) ≡ take width (drop from l)
 between-ends from width l =

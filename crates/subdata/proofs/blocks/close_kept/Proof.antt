@@ -1,7 +1,7 @@
 -- `close_kept` meets its contract. Assumes nothing.
 use borrow.Author.Needs.{needs}
 use borrow.Author.Tests.{eq-eqb, ne-eqb}
-use Rattle.subdata.proofs.Turns.{take-rest}
+use Rattle.group.proofs.Stores.{take-rest}
 use Rattle.subdata.proofs.blocks.close_kept.Statement.{statement}
 use Rattle.subdata.proofs.blocks.close_kept.Tie as tie
 
