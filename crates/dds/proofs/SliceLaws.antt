@@ -2,18 +2,18 @@
 -- Assumes nothing.
 use mathlib.Core.Path.{_≡_, refl, sym, ap, _∙_}
 use mathlib.Core.Bool.{Bool, true, false}
-use mathlib.Core.List.{List, [], _∷_, _++_, append-assoc, append-nil}
+use mathlib.Core.List.{List, [], _∷_, _++_, append-assoc}
 use Prim.Native.Nat.{ℕ, zero, suc, _+_, _*_, _^_, _≤_, _<_}
 use native.Mathlib.Nat.{not-suc-le-zero, le-of-suc-le-suc}
 use native.Mathlib.Omega.{arith}
 use borrow.Author.Tests.{leb-true}
 use lib.ListN.{length, getD, take, drop, take-append-drop}
-use lib.Seq.{drop-length, take-all, take-add, drop-drop}
+use lib.Seq.{take-all, take-add, drop-drop}
 use Rattle.group.specs.declared.Phase.{Phase}
 use Rattle.group.specs.declared.Phase.the-variants.{Free, Inside, Owed}
 use Rattle.group.specs.Store.{put}
 use Rattle.group.specs.Numbers.{numberAt, bytesOf, Bytes}
-use Rattle.group.proofs.Stores.{put-none, put-split, put-put}
+use Rattle.group.proofs.Stores.{put-none, put-split, put-put, put-whole}
 use Rattle.group.proofs.NumberLaws.{length-bytes, number-after, number-of-bytes, bytes-of-number}
 use Rattle.reader.specs.Answer.{inBytes}
 use Rattle.reader.proofs.RowBytes.{length-in-bytes}
@@ -33,12 +33,6 @@ puts-put old at (n ∷ ns) =
     ∙ put-put old at (bytesOf 4 n) (inBytes ns)
 
 -- Stores over a whole slice leave nothing of what stood there.
-put-whole : (old new : List ℕ) → length new ≡ length old → put old 0 new ≡ new
-put-whole old new e =
-    let all : 0 + length new ≡ length old = omega arith in
-    let none : drop (0 + length new) old ≡ [] = ap (λ (n : ℕ). drop n old) all ∙ drop-length old in
-    put-split old 0 new (omega arith) ∙ ap (λ (l : List ℕ). new ++ l) none ∙ append-nil new
-
 pub puts-whole : (old ns : List ℕ) → length old ≡ 4 * length ns → puts old 0 ns ≡ inBytes ns
 puts-whole old ns e = puts-put old 0 ns ∙ put-whole old (inBytes ns) (length-in-bytes ns ∙ sym e)
 

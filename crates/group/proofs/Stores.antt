@@ -3,7 +3,7 @@
 -- Assumes nothing.
 use mathlib.Core.Path.{_≡_, refl, sym, ap, _∙_}
 use mathlib.Core.Bool.{true}
-use mathlib.Core.List.{List, [], _∷_, _++_, append-assoc}
+use mathlib.Core.List.{List, [], _∷_, _++_, append-assoc, append-nil}
 use Prim.Native.Nat.{ℕ, zero, suc, _+_, _-_, _≤_, _<_, zero-le}
 use native.Mathlib.Numerals.{add-one, add-two, add-three}
 use native.Mathlib.Omega.{arith}
@@ -11,7 +11,7 @@ use native.Mathlib.Nat.{add-zero}
 use borrow.Author.Tests.{eqb-true}
 use lib.Dec.{eqb}
 use lib.ListN.{length, getD, set, take, drop, replicate, length-set, length-append, length-drop}
-use lib.Seq.{length-sets, sets-eq, paste, paste-zero, paste-suc, take-length, take-set-le, drop-set-lt, length-take-le, drop-at, take-append-seam, take-all}
+use lib.Seq.{length-sets, sets-eq, paste, paste-zero, paste-suc, take-length, take-set-le, drop-set-lt, length-take-le, drop-at, take-append-seam, take-all, drop-length}
 use Rattle.group.specs.Store.{put, zeros}
 use Rattle.group.proofs.Tests.{both}
 
@@ -30,6 +30,13 @@ pub put-split : (old : List ℕ) (at : ℕ) (new : List ℕ) → at + length new
     → put old at new ≡ take at old ++ new ++ drop (at + length new) old
 unfolding put
 put-split old at new h = sets-eq new old at h
+
+-- A store over a whole slice leaves nothing of what stood there.
+pub put-whole : (old new : List ℕ) → length new ≡ length old → put old 0 new ≡ new
+put-whole old new e =
+    let all : 0 + length new ≡ length old = omega arith in
+    let none : drop (0 + length new) old ≡ [] = ap (λ (n : ℕ). drop n old) all ∙ drop-length old in
+    put-split old 0 new (omega arith) ∙ ap (λ (l : List ℕ). new ++ l) none ∙ append-nil new
 
 -- What stands before a store, and what stands after it, stays.
 pub take-put : (n : ℕ) (old : List ℕ) (at : ℕ) (new : List ℕ) → n ≤ at → take n (put old at new) ≡ take n old

@@ -1,15 +1,15 @@
 -- Laws of lists that are said chunk by chunk: a chunk of what was made in turn, a list from its chunks, and loops that fill one.
 -- Assumes nothing.
 use mathlib.Core.Path.{_≡_, refl, sym, ap, _∙_}
-use mathlib.Core.List.{List, [], _∷_, _++_, append-nil}
+use mathlib.Core.List.{List, [], _∷_, _++_}
 use Prim.Native.Nat.{ℕ, zero, suc, _+_, _*_, _-_, _≤_, _<_, zero-le}
 use native.Mathlib.Nat.{not-suc-le-zero, le-of-suc-le-suc, mul-zero, mul-suc, sub-zero, add-zero, zero-add, suc-add, add-suc}
 use native.Mathlib.Numerals.{add-one}
 use native.Mathlib.Omega.{arith}
 use lib.ListN.{length, getD, take, drop, length-append, length-drop}
-use lib.Seq.{length-take-le, take-at, take-add, drop-drop, take-nil, drop-length, drop-append-add, take-all}
+use lib.Seq.{length-take-le, take-at, take-add, drop-drop, take-nil, drop-append-add, take-all}
 use Rattle.group.specs.Store.{put}
-use Rattle.group.proofs.Stores.{put-none, put-split, put-put}
+use Rattle.group.proofs.Stores.{put-none, put-put, put-whole}
 use Rattle.subdata.specs.Sizes.{chunk, inTurn}
 
 -- What follows the first n of n + m.
@@ -100,10 +100,7 @@ module _ (f : ℕ → List ℕ) (width count : ℕ) where
   filled-done wide old now k done long s =
       let all = length-turns f width count wide 0 count (omega arith) in
       let rest : count - k ≡ 0 = omega arith in
-      let end : 0 + length (inTurn f 0 count) ≡ length old = omega arith in
-      let none : drop (0 + length (inTurn f 0 count)) old ≡ [] = ap (λ (n : ℕ). drop n old) end ∙ drop-length old in
-      sym (rw rest (put-none now (width * k))) ∙ s .same ∙ put-split old 0 (inTurn f 0 count) (omega arith)
-      ∙ ap (λ (l : List ℕ). inTurn f 0 count ++ l) none ∙ append-nil (inTurn f 0 count)
+      sym (rw rest (put-none now (width * k))) ∙ s .same ∙ put-whole old (inTurn f 0 count) (omega arith)
 
 -- What was made number by number.
 get-from : (g : ℕ → ℕ) (i n k : ℕ) → k < n → getD (inTurn (λ (j : ℕ). g j ∷ []) i n) k 0 ≡ g (i + k)
