@@ -7,7 +7,6 @@ use mathlib.Core.List.{List, [], _∷_, map}
 use mathlib.Core.Bool.{Bool, false}
 use lib.ListN.{length}
 use Rattle.group.specs.declared.Entry.{Entry}
-use Rattle.group.specs.declared.Kind.{Kind}
 use Rattle.group.specs.declared.Kind.the-variants.{Separator, Entire}
 use Rattle.group.specs.Sizes.{standardSize, informationLength, entryLength, longestRecord, entryOffset}
 use Rattle.group.specs.Flags.{kinds, flagOf, meaningOf}

@@ -1,6 +1,6 @@
 -- `put_reader` meets its contract: the size, and the other numbers behind it. Assumes nothing.
 use borrow.Author.Needs.{needs}
-use mathlib.Core.Path.{_≡_, sym, ap, _∙_}
+use mathlib.Core.Path.{sym}
 use Prim.Native.Nat.{_<_, _^_}
 use native.Mathlib.Omega.{arith}
 use Rattle.group.proofs.NumberLaws.{number-put}

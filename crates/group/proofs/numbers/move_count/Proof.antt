@@ -4,7 +4,7 @@ use mathlib.Core.Path.{_≡_, sym, ap, _∙_}
 use mathlib.Core.List.{List}
 use Prim.Native.Nat.{ℕ, _+_, _*_, _-_}
 use native.Mathlib.Omega.{arith}
-use lib.ListN.{set, length-set}
+use lib.ListN.{set}
 use Rattle.group.specs.Store.{put}
 use Rattle.group.specs.Entries.{entryAt}
 use Rattle.group.proofs.Stores.{put-over}

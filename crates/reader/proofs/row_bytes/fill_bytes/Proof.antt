@@ -6,7 +6,6 @@ use native.Mathlib.Omega.{arith}
 use lib.ListN.{length}
 use Rattle.group.specs.Sizes.{entryOffset}
 use Rattle.group.specs.Store.{put}
-use Rattle.group.specs.Flags.{meaningOf}
 use Rattle.reader.specs.Answer.{inBytes}
 use Rattle.reader.proofs.Filling.{Filled, filled-turn, filled-reach, filled-done}
 use Rattle.reader.proofs.RowBytes.{put-more}

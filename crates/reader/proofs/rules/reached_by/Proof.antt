@@ -1,5 +1,4 @@
 -- `reached_by` meets its contract: the count, or nothing of it. Assumes nothing.
-use borrow.Author.Needs.{needs}
 use native.Mathlib.Omega.{arith}
 use Rattle.group.specs.Flags.{meaningOf}
 use Rattle.reader.proofs.Scans.{share-reaches, share-small}

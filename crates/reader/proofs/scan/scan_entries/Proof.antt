@@ -1,7 +1,7 @@
 -- `scan_entries` meets its contract: what the scan gives from here is what it gives from the first entry. Assumes nothing.
-use mathlib.Core.Path.{_≡_, refl, sym, ap, _∙_}
+use mathlib.Core.Path.{_≡_, sym, ap, _∙_}
 use mathlib.Core.List.{List}
-use Prim.Native.Nat.{ℕ, _+_, _*_, _-_, _≤_}
+use Prim.Native.Nat.{ℕ, _+_, _-_, _≤_}
 use native.Mathlib.Omega.{arith}
 use borrow.Author.Needs.{needs}
 use Rattle.group.specs.Sizes.{entryOffset}
@@ -9,7 +9,7 @@ use Rattle.group.specs.Entries.{entriesBelow}
 use Rattle.group.specs.Flags.{meaningOf}
 use Rattle.reader.specs.declared.Cursor.{Cursor}
 use Rattle.reader.specs.declared.ScanEnd.{ScanEnd}
-use Rattle.reader.specs.declared.ScanEnd.the-variants.{Reached, Refused}
+use Rattle.reader.specs.declared.ScanEnd.the-variants.{Reached}
 use Rattle.reader.specs.Scan.{scan, after, onward}
 use Rattle.reader.specs.Bounds.{Bounded, scanLeft, movedTo}
 use Rattle.reader.proofs.Faults.{stays}

@@ -1,12 +1,11 @@
 -- `ends` meets its contract: the number of a skip of all that is left. Assumes nothing.
 use borrow.Author.Needs.{needs}
 use borrow.Author.Tests.{eqb-true}
-use mathlib.Core.Path.{_≡_, refl, sym, ap, _∙_}
+use mathlib.Core.Path.{_≡_, refl, ap}
 use mathlib.Core.Bool.{Bool, true, false, cond}
 use Prim.Native.Nat.{ℕ, _+_, _-_}
 use native.Mathlib.Omega.{arith}
 use Rattle.group.specs.declared.Kind.the-variants.{Skip}
-use Rattle.group.specs.Entries.{entryAt}
 use Rattle.group.proofs.Tests.{holds}
 use Rattle.group.proofs.FlagLaws.{flag-small}
 use Rattle.reader.proofs.Scans.{skip-turn}
