@@ -19,7 +19,7 @@ pub length-header : (area pack block : ℕ) → length (headerOf area pack block
 unfolding headerOf
 length-header area pack block = refl
 
--- A close is 8 bytes, and so the data chunk 32 and a block 35.
+-- A close is 8 bytes, and so the Data Part 32 and a block 35.
 pub length-close : (pack : ℕ) (close : List ℕ) → length close ≡ 8 → length (closeOf pack close) ≡ 8
 length-close pack close h = by (eqb pack 6) refl
   where

@@ -49,10 +49,14 @@ judged-all fault block done j =
     let rest : 16 - block ≡ 0 = omega arith in
     rw rest at (j .same)
 
+-- A refusal is no acceptance.
+not-accepted : (number place : ℕ) → Refused number place ≡ Accepted → ⊥
+not-accepted number place e = let z : _≡_ {A = ℕ} 0 1 = cc in omega arith
+
 -- A block was passed, and the rest with it.
 passed : (b : Bool) (rest : TrackAnswer) (found block : ℕ) → cond b rest (Refused found block) ≡ Accepted → (b ≡ true) × (rest ≡ Accepted)
 passed true rest found block e = (refl, e)
-passed false rest found block e = let z : _≡_ {A = ℕ} 0 1 = cc in absurd (omega arith)
+passed false rest found block e = absurd (not-accepted found block e)
 
 -- Accepted exactly where no block has a fault.
 no-fault-from : (fault : ℕ → ℕ) (i n k : ℕ) → faultFrom fault i n ≡ Accepted → k < n → fault (i + k) ≡ 0
@@ -173,8 +177,8 @@ module _ (area : ℕ) (packs : List ℕ) (items track numbers : ℕ) where
     where
       by : (l : Bool) → lengthsKept track (length packs) items numbers ≡ l → (a : Bool) → areaKept area ≡ a
           → cond (not l) (Refused 30 0) (cond (not a) (Refused 32 0) (faultFrom (packFault packs) 0 16)) ≡ Accepted → MakeKept area packs items track numbers
-      by false x a y h = let z : _≡_ {A = ℕ} 0 1 = cc in absurd (omega arith)
-      by true x false y h = let z : _≡_ {A = ℕ} 0 1 = cc in absurd (omega arith)
+      by false x a y h = absurd (not-accepted 30 0 h)
+      by true x false y h = absurd (not-accepted 32 0 h)
       by true x true y h =
           record { long = lengths track (length packs) items numbers x; allowed = y; each = λ block less. no-fault (packFault packs) block h less }
 
@@ -212,7 +216,7 @@ module _ (area : ℕ) (track : List ℕ) (packs items numbers : ℕ) where
     where
       by : (l : Bool) → lengthsKept (length track) packs items numbers ≡ l
           → cond (not l) (Refused 30 0) (faultFrom (λ (block : ℕ). blockFault area block (blockAt track block)) 0 16) ≡ Accepted → ReadKept area track packs items numbers
-      by false x h = let z : _≡_ {A = ℕ} 0 1 = cc in absurd (omega arith)
+      by false x h = absurd (not-accepted 30 0 h)
       by true x h =
           record {
             long = lengths (length track) packs items numbers x;
