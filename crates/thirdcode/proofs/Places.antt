@@ -1,0 +1,220 @@
+-- The buffer by columns: a change touches one byte of one column; turns add up to every column. Assumes nothing.
+use mathlib.Core.Path.{_≡_, refl, sym, ap, ap₂, _∙_, subst, fun-ext}
+use mathlib.Core.List.{List}
+use Prim.Native.Nat.{ℕ, zero, suc, _+_, _*_, _/_, _%_, _<_, _≤_}
+use native.Mathlib.Nat.{mul-le-mul-right, add-mul, div-add-mod', mod-lt, div-lt-iff-lt-mul}
+use native.Mathlib.Decide.{ℕ-discrete, decLt}
+use native.Mathlib.Omega.{arith}
+use lib.Bits.{bitXor}
+use lib.ListN.{length, getD, set, length-set}
+use lib.Seq.{getD-set-same, getD-set-other, ext-getD}
+use Rattle.group.specs.Coded.{listed}
+use Rattle.group.proofs.Computed.{listed-at}
+use Rattle.thirdcode.specs.Field.{_⊕_}
+use Rattle.thirdcode.specs.Column.{Column, firstSum, secondSum, withRow, restoredOne, restoredTwo, lacking, wrongRow, mended}
+use Rattle.thirdcode.specs.Rows.{column, eachColumn}
+use Rattle.thirdcode.specs.Turns.{changed, Turn}
+use Rattle.thirdcode.proofs.Adding.{⊕-zero}
+use Rattle.thirdcode.proofs.Totals.{withRow-same, withRow-other}
+use Rattle.thirdcode.proofs.Steps.{place-in}
+use Rattle.thirdcode.proofs.Mending.{untouched-sum}
+
+-- rows do not run into one another
+row-up : (n i k : ℕ) → i < k → i * n + n ≤ k * n
+row-up n i k h =
+    let m : (i + 1) * n ≤ k * n = mul-le-mul-right n (omega arith) in
+    let e : (i + 1) * n ≡ i * n + 1 * n = add-mul i 1 n in
+    omega arith
+
+-- a place has one row and one column
+pub place-row : (n i c k d : ℕ) → c < n → d < n → i * n + c ≡ k * n + d → i ≡ k
+place-row n i c k d hc hd e = go (decLt i k) (decLt k i)
+  where
+    go : Dec (i < k) → Dec (k < i) → i ≡ k
+    go (yes p) q = absurd (omega (arith, row-up n i k p))
+    go (no p) (yes q) = absurd (omega (arith, row-up n k i q))
+    go (no p) (no q) = omega (arith, p, q)
+
+pub place-column : (n i c k d : ℕ) → c < n → d < n → i * n + c ≡ k * n + d → c ≡ d
+place-column n i c k d hc hd e =
+    let r = place-row n i c k d hc hd e in
+    let m : i * n ≡ k * n = ap (λ (x : ℕ). x * n) r in
+    omega arith
+
+module _ (g : List ℕ) (n c : ℕ) (size : length g ≡ 46 * n) (lc : c < n) where
+  inside : (i : ℕ) → i < 46 → i * n + c < length g
+  inside i l = omega (arith, place-in n i c l lc)
+
+  -- a byte withRow
+  pub column-set : (i v : ℕ) → i < 46 → column (set g (i * n + c) v) n c ≡ withRow (column g n c) i v
+  unfolding column
+  column-set i v l = fun-ext (λ k. go k (ℕ-discrete k i))
+    where
+      go : (k : ℕ) → Dec (k ≡ i) → getD (set g (i * n + c) v) (k * n + c) 0 ≡ withRow (column g n c) i v k
+      go k (yes e) =
+          ap (λ (m : ℕ). getD (set g (i * n + c) v) (m * n + c) 0) e ∙ getD-set-same g (i * n + c) v 0 (inside i l)
+          ∙ sym (withRow-same (column g n c) i v) ∙ ap (withRow (column g n c) i v) (sym e)
+      go k (no d) =
+          getD-set-other g (i * n + c) (k * n + c) v 0 (λ e. d (place-row n k c i c lc lc e)) ∙ sym (withRow-other (column g n c) i v k d)
+
+  pub column-other : (i v d : ℕ) → d < n → (d ≡ c → ⊥) → column (set g (i * n + c) v) n d ≡ column g n d
+  unfolding column
+  column-other i v d ld p =
+      fun-ext (λ k. getD-set-other g (i * n + c) (k * n + d) v 0 (λ e. p (place-column n k d i c ld lc e)))
+
+  -- a byte changed
+  pub column-changed : (i x : ℕ) → i < 46 → column (changed g n i c x) n c ≡ withRow (column g n c) i (column g n c i ⊕ x)
+  unfolding changed
+  column-changed i x l = column-set i (column g n c i ⊕ x) l
+
+  pub changed-other : (i x d : ℕ) → d < n → (d ≡ c → ⊥) → column (changed g n i c x) n d ≡ column g n d
+  unfolding changed
+  changed-other i x d ld p = column-other i (column g n c i ⊕ x) d ld p
+
+pub changed-size : (g : List ℕ) (n i c x : ℕ) → length (changed g n i c x) ≡ length g
+unfolding changed
+changed-size g n i c x = length-set g (i * n + c) (column g n c i ⊕ x)
+
+-- the code's store
+pub stored : (g : List ℕ) (n i c x p : ℕ) → p ≡ i * n + c → set g p (bitXor (getD g p 0) x) ≡ changed g n i c x
+unfolding changed column _⊕_
+stored g n i c x p e = rw e
+
+-- ---- a turn each
+module _ (g : List ℕ) (n c : ℕ) (size : length g ≡ 46 * n) (lc : c < n) where
+  pub turn-one : (g′ : List ℕ) (i s : ℕ) → i < 46 → s ≡ firstSum (column g n c) → g′ ≡ changed g n i c s → Turn (restoredOne i) n c g g′
+  unfolding restoredOne
+  turn-one g′ i s l e h =
+      record {
+        size = ap length h ∙ changed-size g n i c s;
+        here = ap (λ (x : List ℕ). column x n c) h ∙ column-changed g n c size lc i s l ∙ ap (λ (x : ℕ). withRow (column g n c) i (column g n c i ⊕ x)) e;
+        other = λ d ld p. ap (λ (x : List ℕ). column x n d) h ∙ changed-other g n c size lc i s d ld p;
+      }
+
+  pub turn-two : (g₁ g₂ : List ℕ) (i j x y : ℕ) → i < 46 → j < 46 → (i ≡ j → ⊥)
+      → x ≡ lacking i j (firstSum (column g n c)) (secondSum (column g n c)) → y ≡ firstSum (column g n c) ⊕ x
+      → g₁ ≡ changed g n i c x → g₂ ≡ changed g₁ n j c y → Turn (restoredTwo i j) n c g g₂
+  unfolding restoredTwo
+  turn-two g₁ g₂ i j x y li lj d ex ey h₁ h₂ =
+      record {
+        size = ap length h₂ ∙ changed-size g₁ n j c y ∙ size₁;
+        here = ap (λ (u : List ℕ). column u n c) h₂ ∙ column-changed g₁ n c (size₁ ∙ size) lc j y lj ∙ both;
+        other = λ e le p.
+            ap (λ (u : List ℕ). column u n e) h₂ ∙ changed-other g₁ n c (size₁ ∙ size) lc j y e le p
+            ∙ ap (λ (u : List ℕ). column u n e) h₁ ∙ changed-other g n c size lc i x e le p;
+      }
+    where
+      col : ℕ → ℕ
+      col = column g n c
+
+      size₁ : length g₁ ≡ length g
+      size₁ = ap length h₁ ∙ changed-size g n i c x
+
+      one : column g₁ n c ≡ withRow col i (col i ⊕ x)
+      one = ap (λ (u : List ℕ). column u n c) h₁ ∙ column-changed g n c size lc i x li
+
+      at-j : column g₁ n c j ≡ col j
+      at-j = ap (λ (f : ℕ → ℕ). f j) one ∙ withRow-other col i (col i ⊕ x) j (λ e. d (sym e))
+
+      t : ℕ
+      t = lacking i j (firstSum col) (secondSum col)
+
+      both : withRow (column g₁ n c) j (column g₁ n c j ⊕ y) ≡ withRow (withRow col i (col i ⊕ t)) j (col j ⊕ (firstSum col ⊕ t))
+      both =
+          ap₂ (λ (f : ℕ → ℕ) (v : ℕ). withRow f j v) (one ∙ ap (λ (z : ℕ). withRow col i (col i ⊕ z)) ex)
+          (ap₂ _⊕_ at-j (ey ∙ ap (λ (z : ℕ). firstSum col ⊕ z) ex))
+
+  pub turn-mend : (g′ : List ℕ) (r s : ℕ) → r < 46 → s ≡ firstSum (column g n c)
+      → r ≡ wrongRow (firstSum (column g n c)) (secondSum (column g n c)) → g′ ≡ changed g n r c s → Turn mended n c g g′
+  unfolding mended
+  turn-mend g′ r s l e f h =
+      record {
+        size = ap length h ∙ changed-size g n r c s;
+        here = ap (λ (x : List ℕ). column x n c) h ∙ column-changed g n c size lc r s l
+            ∙ ap₂ (λ (x q : ℕ). withRow (column g n c) q (column g n c q ⊕ x)) e f;
+        other = λ d ld p. ap (λ (x : List ℕ). column x n d) h ∙ changed-other g n c size lc r s d ld p;
+      }
+
+  pub turn-none : wrongRow (firstSum (column g n c)) (secondSum (column g n c)) ≡ 46 → Turn mended n c g g
+  unfolding mended
+  turn-none f = record { size = refl; here = fun-ext (λ i. sym (same i)); other = λ d ld p. refl }
+    where
+      col : ℕ → ℕ
+      col = column g n c
+
+      r : ℕ
+      r = wrongRow (firstSum col) (secondSum col)
+
+      here : col r ⊕ firstSum col ≡ col r
+      here = ap (λ (x : ℕ). col r ⊕ x) (untouched-sum (firstSum col) (secondSum col) f) ∙ ⊕-zero (col r)
+
+      go : (i : ℕ) → Dec (i ≡ r) → withRow col r (col r ⊕ firstSum col) i ≡ col i
+      go i (yes e) = ap (withRow col r (col r ⊕ firstSum col)) e ∙ withRow-same col r (col r ⊕ firstSum col) ∙ here ∙ ap col (sym e)
+      go i (no d) = withRow-other col r (col r ⊕ firstSum col) i d
+
+      same : (i : ℕ) → withRow col r (col r ⊕ firstSum col) i ≡ col i
+      same i = go i (ℕ-discrete i r)
+
+-- ---- turns add up: f is done to the columns below c, and nothing to the rest
+pub record Upto (f : Column → Column) (n c : ℕ) (g g′ : List ℕ) : Type 0 where
+  pub size : length g′ ≡ length g
+  pub done : (d : ℕ) → d < n → d < c → column g′ n d ≡ f (column g n d)
+  pub rest : (d : ℕ) → d < n → c ≤ d → column g′ n d ≡ column g n d
+
+pub upto-none : (f : Column → Column) (n : ℕ) (g : List ℕ) → Upto f n 0 g g
+upto-none f n g = record { size = refl; done = λ d ld h. absurd (omega arith); rest = λ d ld h. refl }
+
+pub upto-next : (f : Column → Column) (n c : ℕ) (g g′ g″ : List ℕ) → c < n → Upto f n c g g′ → Turn f n c g′ g″ → Upto f n (c + 1) g g″
+upto-next f n c g g′ g″ lc u t =
+    record {
+      size = t .size ∙ u .size;
+      done = λ d ld h. below d ld h (ℕ-discrete d c);
+      rest = λ d ld h. t .other d ld (λ e. absurd (omega arith)) ∙ u .rest d ld (omega arith);
+    }
+  where
+    below : (d : ℕ) → d < n → d < c + 1 → Dec (d ≡ c) → column g″ n d ≡ f (column g n d)
+    below d ld h (yes e) =
+        ap (column g″ n) e ∙ t .here ∙ ap f (u .rest c lc (omega arith)) ∙ ap (λ (x : ℕ). f (column g n x)) (sym e)
+    below d ld h (no p) = t .other d ld p ∙ u .done d ld (omega (arith, p))
+
+-- The buffer with f done to every column, by its columns.
+length-listed : (f : ℕ → ℕ) (i n : ℕ) → length (listed f i n) ≡ n
+length-listed f i zero = refl
+length-listed f i (suc n) = ap suc (length-listed f (suc i) n)
+
+pub length-each : (f : Column → Column) (n : ℕ) (rows : List ℕ) → length (eachColumn f n rows) ≡ 46 * n
+unfolding eachColumn
+length-each f n rows = length-listed _ 0 (46 * n)
+
+each-at : (f : Column → Column) (n : ℕ) (rows : List ℕ) (p : ℕ) → p < 46 * n
+    → getD (eachColumn f n rows) p 0 ≡ f (column rows n (p % n)) (p / n)
+unfolding eachColumn
+each-at f n rows p h = listed-at (λ (place : ℕ). f (column rows n (place % n)) (place / n)) 0 (46 * n) p h
+
+pub column-each : (f : Column → Column) (n : ℕ) (rows : List ℕ) (c i : ℕ) → c < n → i < 46
+    → column (eachColumn f n rows) n c i ≡ f (column rows n c) i
+unfolding column
+column-each f n rows c i lc li =
+    let p : ℕ = i * n + c in
+    let e : p / n * n + p % n ≡ p = div-add-mod' p n in
+    let m : p % n < n = mod-lt p (omega arith) in
+    each-at f n rows p (place-in n i c li lc)
+    ∙ ap₂ (λ (d k : ℕ). f (column rows n d) k) (place-column n (p / n) (p % n) i c m lc e) (place-row n (p / n) (p % n) i c m lc e)
+
+-- A buffer is its columns.
+pub same-rows : (n : ℕ) (rows rows′ : List ℕ) → length rows ≡ 46 * n → length rows′ ≡ 46 * n
+    → ((c i : ℕ) → c < n → i < 46 → column rows n c i ≡ column rows′ n c i) → rows ≡ rows′
+unfolding column
+same-rows n rows rows′ e e′ h = ext-getD 0 rows rows′ (e ∙ sym e′) at
+  where
+    at : (p : ℕ) → p < length rows → getD rows p 0 ≡ getD rows′ p 0
+    at p l =
+        let pos : 0 < n = omega arith in
+        let low : p / n < 46 = div-lt-iff-lt-mul pos .1 (subst (λ (x : ℕ). p < x) e l) in
+        let whole : p / n * n + p % n ≡ p = div-add-mod' p n in
+        ap (λ (x : ℕ). getD rows x 0) (sym whole) ∙ h (p % n) (p / n) (mod-lt p pos) low ∙ ap (λ (x : ℕ). getD rows′ x 0) whole
+
+pub upto-all : (f : Column → Column) (n c : ℕ) (g g′ : List ℕ) → length g ≡ 46 * n → n ≤ c → Upto f n c g g′ → g′ ≡ eachColumn f n g
+upto-all f n c g g′ long h u =
+    same-rows n g′ (eachColumn f n g) (u .size ∙ long) (length-each f n g)
+    (λ d i ld li. ap (λ (col : Column). col i) (u .done d ld (omega arith)) ∙ sym (column-each f n g d i ld li))
