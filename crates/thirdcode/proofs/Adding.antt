@@ -23,7 +23,7 @@ pub ⊕-self : (a : ℕ) → a ⊕ a ≡ 0
 unfolding _⊕_
 ⊕-self a = xor-self a
 
--- two digits make a digit
+-- Two digits make a digit.
 digit : (x y z : ℕ) → x < 2 → y < 2 → z < 2 → differ (bitXor x y) z ≡ differ x (bitXor y z)
 digit zero zero z hx hy hz = refl
 digit zero (suc zero) zero hx hy hz = refl
@@ -52,21 +52,21 @@ pub ⊕-assoc : (a b c : ℕ) → (a ⊕ b) ⊕ c ≡ a ⊕ (b ⊕ c)
 unfolding _⊕_
 ⊕-assoc a b c = assoc a b c
 
--- four, the middle two exchanged
+-- Four, the middle two exchanged.
 pub ⊕-four : (a b c d : ℕ) → (a ⊕ b) ⊕ (c ⊕ d) ≡ (a ⊕ c) ⊕ (b ⊕ d)
 ⊕-four a b c d =
     ⊕-assoc a b (c ⊕ d)
     ∙ ap (λ (x : ℕ). a ⊕ x) (sym (⊕-assoc b c d) ∙ ap (λ (x : ℕ). x ⊕ d) (⊕-comm b c) ∙ ⊕-assoc c b d)
     ∙ sym (⊕-assoc a c (b ⊕ d))
 
--- what is added twice is gone
+-- What is added twice is gone.
 pub ⊕-back : (a b : ℕ) → a ⊕ (a ⊕ b) ≡ b
 ⊕-back a b = sym (⊕-assoc a a b) ∙ ap (λ (x : ℕ). x ⊕ b) (⊕-self a) ∙ zero-⊕ b
 
 pub ⊕-undo : (a b : ℕ) → (a ⊕ b) ⊕ b ≡ a
 ⊕-undo a b = ⊕-assoc a b b ∙ ap (λ (x : ℕ). a ⊕ x) (⊕-self b) ∙ ⊕-zero a
 
--- a sum of 0 is of equals
+-- A sum of 0 is of equals.
 pub ⊕-equal : (a b : ℕ) → a ⊕ b ≡ 0 → a ≡ b
 ⊕-equal a b e = sym (⊕-undo a b) ∙ ap (λ (x : ℕ). x ⊕ b) e ∙ zero-⊕ b
 
@@ -74,7 +74,7 @@ pub ⊕-byte : (a b : ℕ) → a < 256 → b < 256 → a ⊕ b < 256
 unfolding _⊕_
 ⊕-byte a b ha hb = xor-lt 8 a b ha hb
 
--- ---- doubling
+-- Doubling.
 twice : (a b : ℕ) → (a ⊕ b) * 2 ≡ (a * 2) ⊕ (b * 2)
 unfolding _⊕_
 twice a b = sym (xor-zero-add a b)

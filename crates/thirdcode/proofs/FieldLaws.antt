@@ -1,4 +1,4 @@
--- The laws of the field that the code needs: powerTable add, all have an inverse, and a product is a sum of logarithms.
+-- The laws of the field: powers add, all have an inverse, and a product is a sum of logarithms.
 -- Assumes nothing.
 use mathlib.Core.Path.{_≡_, refl, sym, ap, ap₂, _∙_, subst}
 use Prim.Native.Nat.{ℕ, zero, suc, _+_, _-_, _%_, _<_, _≤_}
@@ -30,7 +30,7 @@ pub power-swap : (a b : ℕ) → times a (power b) ≡ times b (power a)
 unfolding power
 power-swap a b = times-comm a b 1
 
--- what holds of 0 and of every power holds of every byte
+-- What holds of 0 and of every power holds of every byte.
 pub by-log : (P : ℕ → Type 0) → P 0 → ((m : ℕ) → m < 255 → P (power m)) → (x : ℕ) → x < 256 → P x
 by-log P z f x h = go (ℕ-discrete x 0)
   where
@@ -41,7 +41,7 @@ by-log P z f x h = go (ℕ-discrete x 0)
 pub times-255 : (x : ℕ) → x < 256 → times 255 x ≡ x
 times-255 = by-log (λ (x : ℕ). times 255 x ≡ x) (times-zero 255) (λ m h. power-swap 255 m ∙ ap (times m) power-255 ∙ sym (power-is m))
 
--- to multiply by α^k and then by α^(255 − k) changes nothing
+-- To multiply by α^k and then by α^(255 − k) changes nothing.
 pub times-back : (k x : ℕ) → k ≤ 255 → x < 256 → times (255 - k) (times k x) ≡ x
 times-back k x hk h = sym (times-add (255 - k) k x) ∙ ap (λ (n : ℕ). times n x) (whole k hk) ∙ times-255 x h
   where
@@ -54,7 +54,7 @@ times-forth k x hk h = times-comm k (255 - k) x ∙ times-back k x hk h
 pub times-none : (k x : ℕ) → k ≤ 255 → x < 256 → times k x ≡ 0 → x ≡ 0
 times-none k x hk h e = sym (times-back k x hk h) ∙ ap (times (255 - k)) e ∙ times-zero (255 - k)
 
--- (α^a + α^b) x is α^k x, where α^a + α^b is α^k
+-- (α^a + α^b) x is α^k x, where α^a + α^b is α^k.
 pub times-sum : (a b k x : ℕ) → power a ⊕ power b ≡ power k → x < 256 → times a x ⊕ times b x ≡ times k x
 times-sum a b k x e h =
     by-log (λ (x : ℕ). times a x ⊕ times b x ≡ times k x) none
@@ -76,7 +76,7 @@ power-byte k = times-byte k 1 (omega arith)
 pub power-some : (k : ℕ) → k ≤ 255 → power k ≡ 0 → ⊥
 power-some k h e = let z : _≡_ {A = ℕ} 1 0 = times-none k 1 h (omega arith) (sym (power-is k) ∙ e) in omega arith
 
--- powerTable come round after 255
+-- Powers come round after 255.
 pub power-mod : (n : ℕ) → n < 510 → power (n % 255) ≡ power n
 power-mod n h = go (decLt n 255)
   where
@@ -93,7 +93,7 @@ power-mod n h = go (decLt n 255)
     go (yes l) = ap power (low l)
     go (no d) = ap power (high d) ∙ sym (times-255 (power (n - 255)) (power-byte (n - 255))) ∙ sym (power-add 255 (n - 255)) ∙ ap power (sym (whole d))
 
--- the product by the tables
+-- The product by the tables.
 pub by-tables : (k x : ℕ) → k ≤ 255 → x < 256 → (x ≡ 0 → ⊥) → times k x ≡ powerAt ((logarithmAt x + k) % 255)
 by-tables k x hk h d =
     let p = power-log x h d in

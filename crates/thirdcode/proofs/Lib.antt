@@ -11,3 +11,6 @@ pub mod Places
 pub mod Failing
 pub mod Judging
 pub mod Answers
+pub mod Buffers
+pub mod Settled
+pub mod Theorems

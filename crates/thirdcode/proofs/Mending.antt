@@ -7,14 +7,14 @@ use borrow.Author.Tests.{eq-eqb, ne-eqb, le-leb, lt-leb}
 use Rattle.thirdcode.specs.Field.{_⊕_, times, power}
 use Rattle.thirdcode.specs.Tables.{logarithmAt}
 use Rattle.thirdcode.specs.Column.{firstSum, secondSum, withRow, Lawful, rowOfWeight, wrongRow, mended}
-use Rattle.thirdcode.specs.Written.{SameBut, ColumnBytes}
+use Rattle.thirdcode.specs.Written.{SameBut, ColumnBytes, Hopeless}
 use Rattle.thirdcode.proofs.Adding.{⊕-comm, ⊕-back, ⊕-undo, ⊕-equal, ⊕-byte, times-zero}
 use Rattle.thirdcode.proofs.TableLaws.{power-log, log-byte}
 use Rattle.thirdcode.proofs.FieldLaws.{times-none, power-mod, power-add, log-of-power}
 use Rattle.thirdcode.proofs.Totals.{one-first, one-second, withRow-same, withRow-other}
 use Rattle.thirdcode.proofs.Restoring.{first-byte, second-byte, lawful-same, drops, unchanged}
 
--- ---- the four cases of the wrongRow row
+-- The four cases of the wrong row.
 
 pub wrongRow-none : (s t : ℕ) → s ≡ 0 → t ≡ 0 → wrongRow s t ≡ 46
 unfolding wrongRow
@@ -40,7 +40,7 @@ pub row-high : (d : ℕ) → 45 < d → rowOfWeight d ≡ 47
 unfolding rowOfWeight
 row-high d h = rw (lt-leb d 45 h)
 
--- the logarithm of α^k times a byte
+-- The logarithm of α^k times a byte.
 log-times : (k x : ℕ) → k < 255 → x < 256 → (x ≡ 0 → ⊥) → logarithmAt (times k x) ≡ (k + logarithmAt x) % 255
 log-times k x hk h d =
     let p = power-log x h d in
@@ -54,7 +54,7 @@ distance j l m hj hl e = go (45 - j) (omega arith) e
     go : (a : ℕ) → a ≤ 45 → m ≡ (a + l) % 255 → (m + (255 - l)) % 255 ≡ a
     go a ha f = omega arith
 
--- a change of e in row j
+-- A change of e in row j.
 pub wrongRow-at : (j e : ℕ) → j < 46 → e < 256 → (e ≡ 0 → ⊥) → wrongRow e (times (45 - j) e) ≡ j
 wrongRow-at j e l h d =
     let a : 45 - j < 255 = omega arith in
@@ -66,7 +66,7 @@ wrongRow-at j e l h d =
     back : (j : ℕ) → j < 46 → 45 - (45 - j) ≡ j
     back j l = omega arith
 
--- ---- a lawful column of which at most one byte was changed
+-- A lawful column of which at most one byte was changed.
 module _ (g w : ℕ → ℕ) (j : ℕ) (l : j < 46) (bg : ColumnBytes g) (bw : ColumnBytes w) (law : Lawful w) (h : SameBut j g w) where
   sum-is : firstSum g ≡ g j ⊕ w j
   sum-is = drops (firstSum g) (firstSum w) (law .first) ∙ one-first g w j l h
@@ -74,7 +74,7 @@ module _ (g w : ℕ → ℕ) (j : ℕ) (l : j < 46) (bg : ColumnBytes g) (bw : C
   sum2-is : secondSum g ≡ times (45 - j) (g j ⊕ w j)
   sum2-is = drops (secondSum g) (secondSum w) (law .second) ∙ one-second g w j l h
 
-  -- the wrongRow row is that row, or none where nothing was changed
+  -- The wrong row is that row, or none where nothing was changed.
   data Found : Type 0 where
     untouched : g j ≡ w j → wrongRow (firstSum g) (secondSum g) ≡ 46 → Found
     touched : wrongRow (firstSum g) (secondSum g) ≡ j → Found
@@ -88,7 +88,7 @@ module _ (g w : ℕ → ℕ) (j : ℕ) (l : j < 46) (bg : ColumnBytes g) (bw : C
           (wrongRow-none (firstSum g) (secondSum g) (sum-is ∙ e) (sum2-is ∙ ap (times (45 - j)) e ∙ times-zero (45 - j)))
       go (no d) = touched (ap₂ wrongRow sum-is sum2-is ∙ wrongRow-at j (g j ⊕ w j) l (⊕-byte (g j) (w j) (bg j l) (bw j l)) d)
 
-  -- it is not refused
+  -- It is not refused.
   pub not-refused : wrongRow (firstSum g) (secondSum g) < 47
   not-refused = go found
     where
@@ -96,7 +96,7 @@ module _ (g w : ℕ → ℕ) (j : ℕ) (l : j < 46) (bg : ColumnBytes g) (bw : C
       go (untouched e f) = omega arith
       go (touched f) = omega arith
 
-  -- and is given back as it was
+  -- And is given back as it was.
   pub mended-right : (i : ℕ) → i < 46 → mended g i ≡ w i
   unfolding mended
   mended-right i li = go found (ℕ-discrete i j)
@@ -112,14 +112,14 @@ module _ (g w : ℕ → ℕ) (j : ℕ) (l : j < 46) (bg : ColumnBytes g) (bw : C
           ∙ ap (λ (x : ℕ). g j ⊕ x) sum-is ∙ ⊕-back (g j) (w j) ∙ ap w (sym p)
       go (touched f) (no d) = ap (λ (r : ℕ). withRow g r (v r) i) f ∙ withRow-other g j (v j) i d ∙ h i li d
 
--- where mending refuses, no change of one byte makes the column lawful
+-- Where mending refuses, no change of one byte makes the column lawful.
 pub no-mending : (g : ℕ → ℕ) → ColumnBytes g → wrongRow (firstSum g) (secondSum g) ≡ 47
     → (w : ℕ → ℕ) (j : ℕ) → j < 46 → ColumnBytes w → SameBut j g w → Lawful w → ⊥
 no-mending g bg e w j l bw h law = let n = not-refused g w j l bg bw law h in absurd (omega arith)
 
--- where it does not, the mended column is lawful
+-- Where it does not, the mended column is lawful.
 module _ (g : ℕ → ℕ) (b : ColumnBytes g) where
-  -- a change in row i, where the second sum is that of the first there
+  -- A change in row i, where the second sum is that of the first there.
   lawful-at : (i : ℕ) → i < 46 → secondSum g ≡ times (45 - i) (firstSum g) → Lawful (withRow g i (g i ⊕ firstSum g))
   lawful-at i l e = record { first = unchanged (firstSum r) (firstSum g) first; second = unchanged (secondSum r) (secondSum g) second }
     where
@@ -138,7 +138,7 @@ module _ (g : ℕ → ℕ) (b : ColumnBytes g) where
       second : secondSum r ⊕ secondSum g ≡ secondSum g
       second = one-second r g i l same ∙ ap (times (45 - i)) change ∙ sym e
 
-  -- the second sum is α^d times the first, where d is the distance of their logarithms
+  -- The second sum is α^d times the first, where d is the distance of their logarithms.
   reached : (s t : ℕ) → s < 256 → t < 256 → (s ≡ 0 → ⊥) → (t ≡ 0 → ⊥) → t ≡ times ((logarithmAt t + (255 - logarithmAt s)) % 255) s
   reached s t hs ht ds dt =
       let p = power-log s hs ds in
@@ -181,7 +181,38 @@ module _ (g : ℕ → ℕ) (b : ColumnBytes g) where
       go (no p) (yes q) = absurd (n (wrongRow-first s t p q))
       go (no p) (no q) = by-row p q (decLt d 46)
 
--- no row is wrongRow only where the first sum is 0
+-- A mended column is of bytes.
+pub mended-bytes : (g : ℕ → ℕ) → ColumnBytes g → wrongRow (firstSum g) (secondSum g) < 47 → ColumnBytes (mended g)
+unfolding mended
+mended-bytes g b n i l = go (ℕ-discrete i (wrongRow (firstSum g) (secondSum g)))
+  where
+    r : ℕ
+    r = wrongRow (firstSum g) (secondSum g)
+
+    go : Dec (i ≡ r) → withRow g r (g r ⊕ firstSum g) i < 256
+    go (yes e) =
+        subst (λ (x : ℕ). x < 256) (sym (ap (withRow g r (g r ⊕ firstSum g)) e ∙ withRow-same g r (g r ⊕ firstSum g)))
+        (⊕-byte (g r) (firstSum g) (subst (λ (x : ℕ). g x < 256) e (b i l)) (first-byte g b))
+    go (no d) = subst (λ (x : ℕ). x < 256) (sym (withRow-other g r (g r ⊕ firstSum g) i d)) (b i l)
+
+-- and so the column is not hopeless.
+pub not-hopeless : (g : ℕ → ℕ) → ColumnBytes g → wrongRow (firstSum g) (secondSum g) < 47 → Hopeless g → ⊥
+unfolding mended
+not-hopeless g b n h = go (decLt r 46)
+  where
+    r : ℕ
+    r = wrongRow (firstSum g) (secondSum g)
+
+    law : Lawful (mended g)
+    law = mended-lawful g b (λ e. absurd (omega arith))
+
+    go : Dec (r < 46) → ⊥
+    go (yes l) = h (mended g) r l (mended-bytes g b n) (λ i li d. sym (withRow-other g r (g r ⊕ firstSum g) i d)) law
+    go (no l) =
+        h (mended g) 0 (omega arith) (mended-bytes g b n)
+        (λ i li d. sym (withRow-other g r (g r ⊕ firstSum g) i (λ e. absurd (omega (arith, l))))) law
+
+-- No row is wrong only where the first sum is 0.
 pub untouched-sum : (s t : ℕ) → wrongRow s t ≡ 46 → s ≡ 0
 untouched-sum s t h = go (ℕ-discrete s 0) (ℕ-discrete t 0)
   where

@@ -19,14 +19,14 @@ use Rattle.thirdcode.proofs.Totals.{withRow-same, withRow-other}
 use Rattle.thirdcode.proofs.Steps.{place-in}
 use Rattle.thirdcode.proofs.Mending.{untouched-sum}
 
--- rows do not run into one another
+-- Rows do not run into one another.
 row-up : (n i k : ℕ) → i < k → i * n + n ≤ k * n
 row-up n i k h =
     let m : (i + 1) * n ≤ k * n = mul-le-mul-right n (omega arith) in
     let e : (i + 1) * n ≡ i * n + 1 * n = add-mul i 1 n in
     omega arith
 
--- a place has one row and one column
+-- A place has one row and one column.
 pub place-row : (n i c k d : ℕ) → c < n → d < n → i * n + c ≡ k * n + d → i ≡ k
 place-row n i c k d hc hd e = go (decLt i k) (decLt k i)
   where
@@ -45,7 +45,7 @@ module _ (g : List ℕ) (n c : ℕ) (size : length g ≡ 46 * n) (lc : c < n) wh
   inside : (i : ℕ) → i < 46 → i * n + c < length g
   inside i l = omega (arith, place-in n i c l lc)
 
-  -- a byte withRow
+  -- A byte put.
   pub column-set : (i v : ℕ) → i < 46 → column (set g (i * n + c) v) n c ≡ withRow (column g n c) i v
   unfolding column
   column-set i v l = fun-ext (λ k. go k (ℕ-discrete k i))
@@ -62,7 +62,7 @@ module _ (g : List ℕ) (n c : ℕ) (size : length g ≡ 46 * n) (lc : c < n) wh
   column-other i v d ld p =
       fun-ext (λ k. getD-set-other g (i * n + c) (k * n + d) v 0 (λ e. p (place-column n k d i c ld lc e)))
 
-  -- a byte changed
+  -- A byte changed.
   pub column-changed : (i x : ℕ) → i < 46 → column (changed g n i c x) n c ≡ withRow (column g n c) i (column g n c i ⊕ x)
   unfolding changed
   column-changed i x l = column-set i (column g n c i ⊕ x) l
@@ -75,12 +75,12 @@ pub changed-size : (g : List ℕ) (n i c x : ℕ) → length (changed g n i c x)
 unfolding changed
 changed-size g n i c x = length-set g (i * n + c) (column g n c i ⊕ x)
 
--- the code's store
+-- The code's store.
 pub stored : (g : List ℕ) (n i c x p : ℕ) → p ≡ i * n + c → set g p (bitXor (getD g p 0) x) ≡ changed g n i c x
 unfolding changed column _⊕_
 stored g n i c x p e = rw e
 
--- ---- a turn each
+-- A turn each.
 module _ (g : List ℕ) (n c : ℕ) (size : length g ≡ 46 * n) (lc : c < n) where
   pub turn-one : (g′ : List ℕ) (i s : ℕ) → i < 46 → s ≡ firstSum (column g n c) → g′ ≡ changed g n i c s → Turn (restoredOne i) n c g g′
   unfolding restoredOne
@@ -155,7 +155,7 @@ module _ (g : List ℕ) (n c : ℕ) (size : length g ≡ 46 * n) (lc : c < n) wh
       same : (i : ℕ) → withRow col r (col r ⊕ firstSum col) i ≡ col i
       same i = go i (ℕ-discrete i r)
 
--- ---- turns add up: f is done to the columns below c, and nothing to the rest
+-- Turns add up: f is done to the columns below c, and nothing to the rest.
 pub record Upto (f : Column → Column) (n c : ℕ) (g g′ : List ℕ) : Type 0 where
   pub size : length g′ ≡ length g
   pub done : (d : ℕ) → d < n → d < c → column g′ n d ≡ f (column g n d)

@@ -17,7 +17,7 @@ use Rattle.thirdcode.proofs.FieldLaws.{power-is, power-add, power-swap,
 use Rattle.thirdcode.proofs.Totals.{total-same}
 use Rattle.thirdcode.proofs.Steps.{timesAlpha-zero}
 
--- a bit times a byte, and the product, are linear in the byte and pass doubling by
+-- A bit times a byte, and the product, are linear in the byte and pass doubling by.
 bit-timesAlpha : (x b : ℕ) → x < 2 → x * timesAlpha b ≡ timesAlpha (x * b)
 bit-timesAlpha zero b h = zero-mul (timesAlpha b) ∙ sym (ap timesAlpha (zero-mul b) ∙ timesAlpha-zero)
 bit-timesAlpha (suc zero) b h = one-mul (timesAlpha b) ∙ sym (ap timesAlpha (one-mul b))
@@ -52,7 +52,7 @@ unfolding times product
 product-times zero a b = refl
 product-times (suc m) a b = shift-timesAlpha 8 a (times m b) ∙ ap timesAlpha (product-times m a b)
 
--- 1 is neutral
+-- 1 is neutral.
 one : ℕ → Bool
 one a = eqb (product a 1) a
 
@@ -64,7 +64,7 @@ pub product-one : (a : ℕ) → a < 256 → product a 1 ≡ a
 unfolding one
 product-one a h = eqb→eq (product a 1) a (one-all a h)
 
--- a byte times α^m is that byte doubled m times
+-- A byte times α^m is that byte doubled m times.
 pub product-power : (a m : ℕ) → a < 256 → product a (power m) ≡ times m a
 product-power a m h = ap (product a) (power-is m) ∙ product-times m a 1 ∙ ap (times m) (product-one a h)
 
@@ -85,7 +85,7 @@ product-comm a b ha hb =
         by-log (λ (x : ℕ). product (power m) x ≡ times m x) (product-zero (power m) (power-byte m) ∙ sym (times-zero m))
         (λ l h. product-power (power m) l (power-byte m) ∙ power-swap l m) a ha
 
--- products of products
+-- Products of products.
 pub product-assoc : (a b c : ℕ) → a < 256 → b < 256 → c < 256 → product (product a b) c ≡ product a (product b c)
 product-assoc a b c ha hb hc =
     by-log (λ (z : ℕ). product (product a b) z ≡ product a (product b z))
@@ -97,7 +97,7 @@ product-assoc a b c ha hb hc =
         by-log (λ (y : ℕ). product a y < 256) (subst (λ (x : ℕ). x < 256) (sym (product-zero a ha)) (omega arith))
         (λ m h. subst (λ (x : ℕ). x < 256) (sym (product-power a m ha)) (times-byte m a ha)) b hb
 
--- every byte but 0 has an inverse
+-- Every byte but 0 has an inverse.
 pub product-inverse : (a : ℕ) → a < 256 → (a ≡ 0 → ⊥) → product a (power (255 - logarithmAt a)) ≡ 1
 product-inverse a h d =
     let p = power-log a h d in
@@ -107,7 +107,7 @@ product-inverse a h d =
     whole : (l : ℕ) → l < 255 → 255 - l + l ≡ 255
     whole l h = omega arith
 
--- the second sum is that of the bytes of rows i times α^(45 − i)
+-- The second sum is that of the bytes of rows i times α^(45 − i).
 pub second-is : (col : ℕ → ℕ) → ColumnBytes col → secondSum col ≡ total (λ i. product (col i) (power (45 - i))) 46
 unfolding secondSum
 second-is col h =

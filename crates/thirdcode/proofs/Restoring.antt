@@ -1,4 +1,4 @@
--- What restoring and mending give, column by column. Assumes nothing.
+-- What restoring gives, column by column. Assumes nothing.
 use mathlib.Core.Path.{_≡_, sym, ap, ap₂, _∙_, subst}
 use Prim.Native.Nat.{ℕ, zero, suc, _-_, _<_, _≤_}
 use native.Mathlib.Nat.{le-refl}
@@ -13,7 +13,7 @@ use Rattle.thirdcode.proofs.TableLaws.{powerAt-is, power-log, times-byt
 use Rattle.thirdcode.proofs.FieldLaws.{times-forth, times-none, times-sum, power-same, power-byte}
 use Rattle.thirdcode.proofs.Totals.{total-same, one-first, two-first, two-second, withRow-same, withRow-other}
 
--- ---- the sums of bytes are bytes
+-- The sums of bytes are bytes.
 total-byte : (f : ℕ → ℕ) (n : ℕ) → ((i : ℕ) → i < n → f i < 256) → total f n < 256
 unfolding total
 total-byte f zero h = omega arith
@@ -39,14 +39,14 @@ second-same v w h =
 pub lawful-same : (v w : ℕ → ℕ) → ((i : ℕ) → i < 46 → v i ≡ w i) → Lawful w → Lawful v
 lawful-same v w h l = record { first = first-same v w h ∙ l .first; second = second-same v w h ∙ l .second }
 
--- a sum that a lawful column adds nothing to
+-- A sum that a lawful column adds nothing to.
 pub drops : (a b : ℕ) → b ≡ 0 → a ≡ a ⊕ b
 drops a b e = sym (⊕-zero a) ∙ ap (λ (x : ℕ). a ⊕ x) (sym e)
 
 pub unchanged : (a b : ℕ) → a ⊕ b ≡ b → a ≡ 0
 unchanged a b e = sym (⊕-undo a b) ∙ ap (λ (x : ℕ). x ⊕ b) e ∙ ⊕-self b
 
--- ---- one row restored: whatever it held, it is as written if the others are
+-- One row restored: whatever it held, it is as written if the others are.
 pub restored-one : (j : ℕ) (g w : ℕ → ℕ) → j < 46 → Lawful w → SameBut j g w → (i : ℕ) → i < 46 → restoredOne j g i ≡ w i
 unfolding restoredOne
 restored-one j g w l law h i li = go (ℕ-discrete i j)
@@ -58,7 +58,7 @@ restored-one j g w l law h i li = go (ℕ-discrete i j)
     go (yes e) = ap (withRow g j (g j ⊕ firstSum g)) e ∙ withRow-same g j (g j ⊕ firstSum g) ∙ ap (λ (x : ℕ). g j ⊕ x) sum ∙ ⊕-back (g j) (w j) ∙ ap w (sym e)
     go (no d) = withRow-other g j (g j ⊕ firstSum g) i d ∙ h i li d
 
--- ---- two rows
+-- Two rows.
 module _ (j k : ℕ) (lj : j < 46) (lk : k < 46) (d : j ≡ k → ⊥) where
   some : powerAt (45 - j) ⊕ powerAt (45 - k) ≡ 0 → ⊥
   some e =
@@ -69,7 +69,7 @@ module _ (j k : ℕ) (lj : j < 46) (lk : k < 46) (d : j ≡ k → ⊥) where
   at-byte : (n : ℕ) → n < 256 → powerAt n < 256
   at-byte n h = subst (λ (x : ℕ). x < 256) (sym (powerAt-is n h)) (power-byte n)
 
-  -- the two powerTable add to the power of their distance
+  -- The two powers add to the power of their distance.
   apart-log : (power (apart j k) ≡ powerAt (45 - j) ⊕ powerAt (45 - k)) × (apart j k < 255)
   unfolding apart
   apart-log =
@@ -85,7 +85,7 @@ module _ (j k : ℕ) (lj : j < 46) (lk : k < 46) (d : j ≡ k → ⊥) where
   below-255 : apart j k ≤ 255
   below-255 = omega (arith, apart-log .1)
 
-  -- two lawful columns that are the same but in two rows are the same
+  -- Two lawful columns that are the same but in two rows are the same.
   pub only-two : (v w : ℕ → ℕ) → Lawful v → Lawful w → ColumnBytes v → ColumnBytes w → SameButTwo j k v w → (i : ℕ) → i < 46 → v i ≡ w i
   only-two v w lv lw bv bw h i li = go (ℕ-discrete i j) (ℕ-discrete i k)
     where
@@ -112,7 +112,7 @@ module _ (j k : ℕ) (lj : j < 46) (lk : k < 46) (d : j ≡ k → ⊥) where
       go (no p) (no q) = h i li p q
 
   module _ (g : ℕ → ℕ) where
-    -- what is added to row j
+    -- What is added to row j.
     change : ℕ
     change = lacking j k (firstSum g) (secondSum g)
 
@@ -142,7 +142,7 @@ module _ (j k : ℕ) (lj : j < 46) (lk : k < 46) (d : j ≡ k → ⊥) where
     unfolding change lacking
     change-is b = times-forth (apart j k) _ below-255 (⊕-byte _ _ (second-byte g b) (times-byte (45 - k) _ (first-byte g b)))
 
-    -- restoring two rows gives a lawful column, whatever the column held
+    -- Restoring two rows gives a lawful column, whatever the column held.
     pub lawful-two : ColumnBytes g → Lawful (restoredTwo j k g)
     lawful-two b = record { first = unchanged (firstSum r) s first; second = unchanged (secondSum r) t second }
       where
@@ -183,7 +183,7 @@ module _ (j k : ℕ) (lj : j < 46) (lk : k < 46) (d : j ≡ k → ⊥) where
             (⊕-byte (g k) (firstSum g ⊕ change) (b k lk) (⊕-byte (firstSum g) change (first-byte g b) (change-byte b)))
         go (no p) (no q) = subst (λ (x : ℕ). x < 256) (sym (two-else i p q)) (b i l)
 
-    -- the two rows are as written, whatever they held, if the others are
+    -- The two rows are as written, whatever they held, if the others are.
     pub restored-two : (w : ℕ → ℕ) → ColumnBytes g → ColumnBytes w → Lawful w → SameButTwo j k g w
         → (i : ℕ) → i < 46 → restoredTwo j k g i ≡ w i
     restored-two w b bw law h =

@@ -16,7 +16,7 @@ use Rattle.group.proofs.Computed.{below}
 use Rattle.thirdcode.proofs.Adding.{timesAlpha-⊕}
 use Rattle.thirdcode.proofs.Totals.{total-same}
 
--- ---- doubling, below 128 and from 128 on
+-- Doubling, below 128 and from 128 on.
 low : ℕ → Bool
 low b = eqb (b * 2) (timesAlpha b)
 
@@ -43,11 +43,11 @@ timesAlpha-high b l h =
     whole : (b : ℕ) → 128 ≤ b → b - 128 + 128 ≡ b
     whole b l = omega arith
 
--- ---- a place lies in the buffer
+-- A place lies in the buffer.
 pub place-in : (n i c : ℕ) → i < 46 → c < n → i * n + c < 46 * n
 place-in n i c li lc = let h : i * n ≤ 45 * n = mul-le-mul-right n (le-of-suc-le-suc li) in omega arith
 
--- ---- the second sum row by row: timesAlpha, and add the next
+-- The second sum row by row: times α, and add the next.
 unfoldable pub horner : (ℕ → ℕ) → ℕ → ℕ
 horner col zero = 0
 horner col (suc k) = timesAlpha (horner col k) ⊕ col k
@@ -61,7 +61,7 @@ unfolding total
 timesAlpha-total f zero = timesAlpha-zero
 timesAlpha-total f (suc n) = timesAlpha-⊕ (total f n) (f n) ∙ ap (λ (x : ℕ). x ⊕ timesAlpha (f n)) (timesAlpha-total f n)
 
--- one more factor of α
+-- One more factor of α.
 raised : (k i x : ℕ) → i < k → timesAlpha (times (k - 1 - i) x) ≡ times (k - i) x
 unfolding times
 raised k i x h = let e : k - i ≡ suc (k - 1 - i) = omega arith in ap (λ (m : ℕ). times m x) (sym e)

@@ -57,7 +57,7 @@ total-two f j k (suc n) lj lk d h =
     go (no dj) (no dk) r =
         ap₂ _⊕_ (r dj dk) (h n (le-refl (suc n)) (λ q. dj (sym q)) (λ q. dk (sym q))) ∙ ⊕-zero (f j ⊕ f k)
 
--- ---- two columns: their sums differ by what their rows differ by
+-- Two columns: their sums differ by what their rows differ by.
 
 pub first-two : (v w : ℕ → ℕ) → firstSum v ⊕ firstSum w ≡ firstSum (λ i. v i ⊕ w i)
 unfolding firstSum
@@ -70,7 +70,7 @@ second-two v w =
     ∙ total-same (λ i. times (45 - i) (v i) ⊕ times (45 - i) (w i)) (λ i. times (45 - i) (v i ⊕ w i)) 46
     (λ i l. sym (times-⊕ (45 - i) (v i) (w i)))
 
--- the difference of two columns that are the same but in one row, and but in two
+-- The difference of two columns that are the same but in one row, and but in two.
 gone : (a b : ℕ) → a ≡ b → a ⊕ b ≡ 0
 gone a b e = ap (λ (x : ℕ). x ⊕ b) e ∙ ⊕-self b
 
@@ -99,7 +99,7 @@ module _ (v w : ℕ → ℕ) where
       ∙ total-two (λ i. times (45 - i) (v i ⊕ w i)) j k 46 lj lk d
       (λ i l p q. ap (times (45 - i)) (gone (v i) (w i) (h i l p q)) ∙ times-zero (45 - i))
 
--- ---- a row withRow
+-- A row put.
 pub withRow-same : (col : ℕ → ℕ) (j v : ℕ) → withRow col j v j ≡ v
 unfolding withRow
 withRow-same col j v = ap (λ (b : Bool). cond b v (col j)) (eq-eqb j j refl)

@@ -1,5 +1,5 @@
 -- `sums_of` meets its contract: the first sum is that of the rows passed, and the second that of the rows passed,
--- times the powerTable up to the last of them. Assumes nothing.
+-- times the powers up to the last of them. Assumes nothing.
 use borrow.Author.Needs.{needs}
 use mathlib.Core.Path.{_≡_, refl, ap, _∙_}
 use Prim.Native.Nat.{ℕ, _-_, _≤_}
