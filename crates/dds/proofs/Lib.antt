@@ -3,5 +3,6 @@ pub mod SliceLaws
 pub mod Outcomes
 pub mod TrackOutcomes
 pub mod TrackTrip
+pub mod ThirdOutcomes
 pub mod States
 pub mod Settled

@@ -6,6 +6,7 @@ use mathlib.Core.List.{List}
 use Prim.Native.Nat.{ℕ}
 use Rattle.dds.specs.Calls.{Outcome, ddsReaderStart, ddsRead, ddsWriterStart, ddsRecord, ddsSeparator, ddsEnd}
 use Rattle.dds.specs.Tracks.{MakeOutcome, ReadOutcome, ddsSubdataMake, ddsSubdataRead}
+use Rattle.dds.specs.Third.{ThirdOutcome, CheckOutcome, ddsThirdMake, ddsThirdCheck, ddsThirdRestoreOne, ddsThirdRestoreTwo, ddsThirdMend}
 
 same : {A : Type 0} {x a b : A} → a ≡ x → b ≡ x → a ≡ b
 same e f = e ∙ sym f
@@ -41,3 +42,23 @@ subdata-make-settled area frame packs items track numbers answer e f = same e f
 pub subdata-read-settled : (area frame : ℕ) (track packs items numbers answer : List ℕ) {a b : ReadOutcome}
     → a ≡ ddsSubdataRead area frame track packs items numbers answer → b ≡ ddsSubdataRead area frame track packs items numbers answer → a ≡ b
 subdata-read-settled area frame track packs items numbers answer e f = same e f
+
+pub third-make-settled : (n : ℕ) (rows answer : List ℕ) {a b : ThirdOutcome}
+    → a ≡ ddsThirdMake n rows answer → b ≡ ddsThirdMake n rows answer → a ≡ b
+third-make-settled n rows answer e f = same e f
+
+pub third-check-settled : (n : ℕ) (rows answer : List ℕ) {a b : CheckOutcome}
+    → a ≡ ddsThirdCheck n rows answer → b ≡ ddsThirdCheck n rows answer → a ≡ b
+third-check-settled n rows answer e f = same e f
+
+pub third-restore-one-settled : (n row : ℕ) (rows answer : List ℕ) {a b : ThirdOutcome}
+    → a ≡ ddsThirdRestoreOne n row rows answer → b ≡ ddsThirdRestoreOne n row rows answer → a ≡ b
+third-restore-one-settled n row rows answer e f = same e f
+
+pub third-restore-two-settled : (n first second : ℕ) (rows answer : List ℕ) {a b : ThirdOutcome}
+    → a ≡ ddsThirdRestoreTwo n first second rows answer → b ≡ ddsThirdRestoreTwo n first second rows answer → a ≡ b
+third-restore-two-settled n first second rows answer e f = same e f
+
+pub third-mend-settled : (n : ℕ) (rows answer : List ℕ) {a b : ThirdOutcome}
+    → a ≡ ddsThirdMend n rows answer → b ≡ ddsThirdMend n rows answer → a ≡ b
+third-mend-settled n rows answer e f = same e f

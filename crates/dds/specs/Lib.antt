@@ -2,3 +2,4 @@
 pub mod Slices
 pub mod Calls
 pub mod Tracks
+pub mod Third

@@ -1,6 +1,7 @@
-// The library as C firmware sees it: calls on plain numbers and lent byte slices, over the proved reader, writer and track.
+// The library as C firmware sees it: calls on plain numbers and lent byte slices, over the proved reader, writer, track and third code.
 // None of them requires anything: every slice of every length is answered.
 mod reading;
 mod slices;
+mod third;
 mod tracks;
 mod writing;
