@@ -1,6 +1,6 @@
-/* dds.h: writing and reading the Basic Groups and the Sub Data Blocks of DDS tapes, called from C.
+/* dds.h: writing and reading the Basic Groups and the Sub Data Blocks of DDS tapes, and their third code, called from C.
 
-   Eight calls on plain numbers and lent byte slices. A slice is a pointer and a length in bytes. Every number inside a
+   Thirteen calls on plain numbers and lent byte slices. A slice is a pointer and a length in bytes. Every number inside a
    slice is four bytes, most significant first. Each call returns the refusal number, DDS_ACCEPTED if it was accepted.
    The library keeps nothing between calls, allocates nothing and calls nothing but memset and memcpy.
 
@@ -47,6 +47,9 @@ extern "C" {
 #define DDS_ITEMS_LEN   512u           /* what stands at the 64 places of a track, place by place */
 #define DDS_NUMBERS_LEN 256u           /* the Item numbers of the 64 places */
 
+#define DDS_THIRD_ROWS       46u       /* rows of the third code; the buffer is 46 * row_len bytes, row i from i * row_len on */
+#define DDS_THIRD_DATA_ROWS  44u       /* rows 0 to 43 are data, rows 44 and 45 check bytes */
+
 /* ---- Fields of a state. The first four are the reader's; a writer has all eight. */
 
 #define DDS_STATE_SIZE    0u           /* group size L */
@@ -65,7 +68,7 @@ extern "C" {
 /* ---- Fields of the answer */
 
 #define DDS_ANSWER_REFUSAL 0u          /* the number the call returns too */
-#define DDS_ANSWER_PLACE   4u          /* the entry, from 1, for refusals 8 to 13; the block for 31 to 34; else 0 */
+#define DDS_ANSWER_PLACE   4u          /* the entry, from 1, for refusals 8 to 13; the block for 31 to 34; the column for 43; else 0 */
 #define DDS_ANSWER_OUTCOME 8u          /* DDS_OUTCOME_.. */
 #define DDS_ANSWER_NUMBER  12u         /* at a close: the closed group's number */
 #define DDS_ANSWER_ENTRIES 16u         /* at a close: its entry count, an owed total and the skip counted */
@@ -73,6 +76,7 @@ extern "C" {
 
 #define DDS_OUTCOME_FINISHED 0u        /* the work is done and no group was closed; number, entries and taken are 0 */
 #define DDS_OUTCOME_CLOSED   1u        /* a group was closed */
+#define DDS_OUTCOME_BROKEN   1u        /* dds_third_check: some column breaks a rule; 0 where every one keeps both */
 
 /* ---- Fields of a row */
 
@@ -136,6 +140,10 @@ extern "C" {
 #define DDS_REFUSED_SW1           32u  /* Area ID not allowed: make; SW1 not this track's: read, at a block */
 #define DDS_REFUSED_SW2           33u  /* Pack ID neither 6 nor 7: make, at a block; SW2 wrong: read, at a block */
 #define DDS_REFUSED_CLOSE         34u  /* a close with Pack ID 6 is not zero: read of a track, at a block */
+#define DDS_REFUSED_ROW_LENGTH    40u  /* row length 0, or rows not 46 * row_len bytes: the calls of the third code */
+#define DDS_REFUSED_ROW           41u  /* a row above 45: restore */
+#define DDS_REFUSED_SAME_ROW      42u  /* the same row twice: restore of two rows */
+#define DDS_REFUSED_HOPELESS      43u  /* a column that no single change mends: mend, at the first such column */
 
 /* ---- Starting
 
@@ -208,6 +216,34 @@ uint32_t dds_subdata_make(uint32_t area, uint32_t frame, const uint8_t *packs, s
 uint32_t dds_subdata_read(uint32_t area, uint32_t frame, const uint8_t *track, size_t track_len, uint8_t *packs,
                           size_t packs_len, uint8_t *items, size_t items_len, uint8_t *numbers, size_t numbers_len,
                           uint8_t *answer, size_t answer_len);
+
+/* ---- The third code
+
+   46 rows of `row_len` bytes in one buffer, any 46 tracks that stand together: rows 0 to 43 are data, 44 and 45 check bytes.
+   Column c is the bytes c of all rows, from 0. It keeps both rules where its 46 bytes add to zero, and its bytes of rows i
+   times alpha^(45 - i) too, in the field of bytes modulo x^8 + x^4 + x^3 + x^2 + 1 with alpha = 2.
+
+   Make: rows 44 and 45 are written, whatever they held, so that every column keeps both rules.
+   Refusals in order: 1 by the answer's length, 40. */
+uint32_t dds_third_make(uint32_t row_len, uint8_t *rows, size_t rows_len, uint8_t *answer, size_t answer_len);
+
+/* Check: accepted, with DDS_OUTCOME_BROKEN where some column breaks a rule. Nothing but the answer is written.
+   Refusals in order: 1 by the answer's length, 40. */
+uint32_t dds_third_check(uint32_t row_len, const uint8_t *rows, size_t rows_len, uint8_t *answer, size_t answer_len);
+
+/* Restore: the named row or rows are written, whatever they held. They are those that were written where the others are. One
+   row is restored by the first rule alone: where another byte is wrong the second need not hold after.
+   Refusals in order: 1 by the answer's length, 40, 41, 42. */
+uint32_t dds_third_restore_one(uint32_t row_len, uint32_t row, uint8_t *rows, size_t rows_len, uint8_t *answer,
+                               size_t answer_len);
+
+uint32_t dds_third_restore_two(uint32_t row_len, uint32_t first, uint32_t second, uint8_t *rows, size_t rows_len,
+                               uint8_t *answer, size_t answer_len);
+
+/* Mend: at most one byte of each column is written, so that it keeps both rules. That is right where at most one byte of the
+   column was changed. Every column is judged before a byte is written.
+   Refusals in order: 1 by the answer's length, 40, 43. */
+uint32_t dds_third_mend(uint32_t row_len, uint8_t *rows, size_t rows_len, uint8_t *answer, size_t answer_len);
 
 #ifdef __cplusplus
 }

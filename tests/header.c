@@ -29,6 +29,8 @@ static const struct { const char *name; uint32_t found, wanted; } constants[] = 
     IS(DDS_BLOCK_ITEMS, 3) IS(DDS_BLOCK_CLOSE, 27) IS(DDS_PLACES, 64) IS(DDS_ITEM_LEN, 8)
     IS(DDS_AREA_REFERENCE, 1) IS(DDS_AREA_SYSTEM, 2) IS(DDS_AREA_DATA, 4) IS(DDS_AREA_EOD, 5) IS(DDS_AREA_X, 8)
     IS(DDS_LOG_FIRST, 71) IS(DDS_LOG_LAST, 95)
+    IS(DDS_THIRD_ROWS, 46) IS(DDS_THIRD_DATA_ROWS, 44) IS(DDS_OUTCOME_BROKEN, 1)
+    IS(DDS_REFUSED_ROW_LENGTH, 40) IS(DDS_REFUSED_ROW, 41) IS(DDS_REFUSED_SAME_ROW, 42) IS(DDS_REFUSED_HOPELESS, 43)
     IS(DDS_REFUSED_LENGTH, 30) IS(DDS_REFUSED_PARITY, 31) IS(DDS_REFUSED_SW1, 32) IS(DDS_REFUSED_SW2, 33) IS(DDS_REFUSED_CLOSE, 34)
 };
 
@@ -50,6 +52,11 @@ int main(void)
     failures += dds_end(none, 0, none, 0, 0, none, 0) != 1;
     failures += dds_subdata_make(12, 0, none, 0, none, 0, none, 0, none, 0, none, 0) != 1;
     failures += dds_subdata_read(12, 0, none, 0, none, 0, none, 0, none, 0, none, 0) != 1;
-    printf("header: %u checks, %d failed\n", (unsigned)n + 8, failures);
+    failures += dds_third_make(1, none, 0, none, 0) != 1;
+    failures += dds_third_check(1, none, 0, none, 0) != 1;
+    failures += dds_third_restore_one(1, 0, none, 0, none, 0) != 1;
+    failures += dds_third_restore_two(1, 0, 1, none, 0, none, 0) != 1;
+    failures += dds_third_mend(1, none, 0, none, 0) != 1;
+    printf("header: %u checks, %d failed\n", (unsigned)n + 13, failures);
     return failures != 0;
 }
