@@ -1,8 +1,9 @@
 /* The library beside plain C built with -O2 and with -O3, and writing beside memcpy of the same bytes, in one run, at
-   the standard size. Best of many interleaved repetitions, as ratios. Four uses:
+   the standard size; the third code over 46 rows of 2,878 bytes. Best of many interleaved repetitions, as ratios. Four uses:
      bench time COUNTS ROUNDS  the table, best of so many; COUNTS is a file of lines "work who instructions"
      bench counts COUNTS       the instructions alone, where a time would say nothing
-     bench count WORK WHO N    reads N groups, 2 at most, or writes N records, and measures nothing: for counting them
+     bench count WORK WHO N    reads N groups, 2 at most, or writes N records, or does the third code's work N times, and
+                               measures nothing: for counting them
      bench works               the names of the works, each with the call it measures */
 
 #define _POSIX_C_SOURCE 199309L
@@ -15,30 +16,42 @@
 
 #define L DDS_SIZE_STANDARD
 #define IMAGES 16              /* groups of one kind, read in turn */
+#define ROW 2878               /* bytes of a row of the third code */
 #define WHO 3                  /* the library, plain C -O2, plain C -O3 */
 #define BYTES (4u << 20)       /* bytes written in one repetition, or one record if it is longer */
 #define MOST_PIECES (BYTES / 100 + 4096)
 
 typedef uint32_t read_call(uint8_t *, size_t, const uint8_t *, size_t, uint32_t, uint32_t, uint8_t *, size_t, uint8_t *, size_t);
 typedef uint32_t record_call(uint8_t *, size_t, uint8_t *, size_t, const uint8_t *, size_t, uint32_t, uint8_t *, size_t);
+typedef uint32_t rows_call(uint32_t, uint8_t *, size_t, uint8_t *, size_t);
+typedef uint32_t two_call(uint32_t, uint32_t, uint32_t, uint8_t *, size_t, uint8_t *, size_t);
 extern read_call plain2_read, plain3_read;
+extern rows_call plain2_third_make, plain3_third_make, plain2_third_mend, plain3_third_mend;
+extern two_call plain2_third_restore_two, plain3_third_restore_two;
 extern record_call plain2_record, plain3_record;
 
 static const char *const who_name[WHO] = { "dds", "plain2", "plain3" };
 static read_call *const reads[WHO] = { dds_read, plain2_read, plain3_read };
 static record_call *const records[WHO] = { dds_record, plain2_record, plain3_record };
+static rows_call *const makes[WHO] = { dds_third_make, plain2_third_make, plain3_third_make };
+static rows_call *const mends[WHO] = { dds_third_mend, plain2_third_mend, plain3_third_mend };
+static two_call *const restores[WHO] = { dds_third_restore_two, plain2_third_restore_two, plain3_third_restore_two };
 
-/* a reading work has entries, a writing work a record length; `most` is the ratio wanted, 0 where none is set */
-typedef struct { const char *name; uint32_t entries; int mixed; uint32_t length; double most; } work;
+/* a reading work has entries, a writing work a record length, a work of the third code the name of its call; `most` is the
+   ratio wanted, 0 where none is set */
+typedef struct { const char *name; uint32_t entries; int mixed; uint32_t length; double most; const char *third; } work;
 static const work works[] = {
-    { "read-2", 2, 0, 0, 1.0 }, { "read-100-regular", 100, 0, 0, 1.0 }, { "read-100-mixed", 100, 1, 0, 1.0 },
-    { "read-30000-regular", 30000, 0, 0, 1.0 }, { "read-30000-mixed", 30000, 1, 0, 1.0 },
-    { "write-100", 0, 0, 100, 2.0 }, { "write-1024", 0, 0, 1024, 0 }, { "write-65536", 0, 0, 65536, 1.15 },
-    { "write-126592", 0, 0, 126592, 1.15 }, { "write-16777215", 0, 0, 16777215, 1.15 },
+    { "read-2", 2, 0, 0, 1.0, 0 }, { "read-100-regular", 100, 0, 0, 1.0, 0 }, { "read-100-mixed", 100, 1, 0, 1.0, 0 },
+    { "read-30000-regular", 30000, 0, 0, 1.0, 0 }, { "read-30000-mixed", 30000, 1, 0, 1.0, 0 },
+    { "write-100", 0, 0, 100, 2.0, 0 }, { "write-1024", 0, 0, 1024, 0, 0 }, { "write-65536", 0, 0, 65536, 1.15, 0 },
+    { "write-126592", 0, 0, 126592, 1.15, 0 }, { "write-16777215", 0, 0, 16777215, 1.15, 0 },
+    { "third-make", 0, 0, 0, 1.0, "third_make" }, { "third-restore-two", 0, 0, 0, 1.0, "third_restore_two" },
+    { "third-mend", 0, 0, 0, 1.0, "third_mend" },
 };
 #define WORKS ((int)(sizeof works / sizeof *works))
 
 static uint8_t images[IMAGES][L], rows[12 * 31650], other_rows[12 * 31650], group[L], other_group[L], *source;
+static uint8_t third_rows[46 * ROW], other_third[46 * ROW];
 static uint8_t reader_fresh[16], writer_fresh[32], state[32], answer[24];
 
 static uint64_t seed = 0x9E3779B97F4A7C15u;
@@ -137,10 +150,38 @@ static void copy_pieces(void)
     }
 }
 
+/* ---- The third code: rows 7 and 30 lost, or one wrong byte in each column. What is changed is put right each time. */
+
+static void make_rows(void)
+{
+    uint32_t i;
+    for (i = 0; i < sizeof third_rows; i++) third_rows[i] = (uint8_t)below(256);
+    if (dds_third_make(ROW, third_rows, sizeof third_rows, answer, 24)) wrong("third code", "rows were refused");
+}
+
+static long third_once(const work *w, int who, long times)
+{
+    long t, bad = 0;
+    uint32_t c;
+    for (t = 0; t < times; t++)
+        if (!strcmp(w->third, "third_make")) bad += makes[who](ROW, third_rows, sizeof third_rows, answer, 24) != 0;
+        else if (!strcmp(w->third, "third_mend")) {
+            for (c = 0; c < ROW; c++) third_rows[c % 46 * ROW + c] ^= (uint8_t)(c % 255 + 1);
+            bad += mends[who](ROW, third_rows, sizeof third_rows, answer, 24) != 0;
+        } else {
+            memset(third_rows + 7 * ROW, 0x77, ROW);
+            memset(third_rows + 30 * ROW, 0x33, ROW);
+            bad += restores[who](ROW, 7, 30, third_rows, sizeof third_rows, answer, 24) != 0;
+        }
+    if (bad) wrong(w->name, "rows were refused");
+    return times;
+}
+
 /* ---- Measuring */
 
 static long repetitions(const work *w)
 {
+    if (w->third) return 16;
     if (w->length) return w->length >= BYTES ? 1 : BYTES / w->length;
     return w->entries >= 30000 ? IMAGES : w->entries >= 100 ? 64 * IMAGES : 1024 * IMAGES;
 }
@@ -150,8 +191,12 @@ static void agree(const work *w)
 {
     int who;
     if (w->entries) make_images(w, IMAGES);
+    if (w->third) { make_rows(); memcpy(other_third, third_rows, sizeof third_rows); }
     for (who = 0; who < WHO; who++) {
-        if (w->entries) {
+        if (w->third) {
+            third_once(w, who, 1);
+            if (memcmp(other_third, third_rows, sizeof third_rows)) wrong(w->name, "rows differ");
+        } else if (w->entries) {
             memset(rows, 0xEE, sizeof rows);
             read_once(w, who, IMAGES);
             if (who == 0) memcpy(other_rows, rows, sizeof rows);
@@ -177,9 +222,10 @@ static void measure(int i, int rounds)
     for (r = 0; r < rounds; r++)
         for (who = 0; who <= WHO; who++) {
             double begun, took;
-            if (who == WHO && w->entries) continue;
+            if (who == WHO && !w->length) continue;
             begun = now();
             if (who == WHO) copy_pieces();
+            else if (w->third) third_once(w, who, times);
             else if (w->entries) read_once(w, who, times);
             else write_once(w, who, times, 0);
             took = (now() - begun) / (double)times;
@@ -237,7 +283,7 @@ int main(int argc, char **argv)
     if (!source) return 2;
     if (dds_reader_start(L, 1, reader_fresh, 16, answer, 24) || dds_writer_start(L, 1, writer_fresh, 32, answer, 24)) return 2;
     if (argc == 2 && !strcmp(argv[1], "works")) {
-        for (i = 0; i < WORKS; i++) printf("%s %s\n", works[i].name, works[i].entries ? "read" : "record");
+        for (i = 0; i < WORKS; i++) printf("%s %s\n", works[i].name, works[i].third ? works[i].third : works[i].entries ? "read" : "record");
         return 0;
     }
     if (argc == 3 && !strcmp(argv[1], "counts")) {
@@ -250,7 +296,10 @@ int main(int argc, char **argv)
         for (i = 0; i < WORKS; i++)
             for (who = 0; who < WHO; who++)
                 if (!strcmp(argv[2], works[i].name) && !strcmp(argv[3], who_name[who])) {
-                    if (works[i].entries) {
+                    if (works[i].third) {
+                        make_rows();
+                        third_once(&works[i], who, atol(argv[4]));
+                    } else if (works[i].entries) {
                         make_images(&works[i], 2);
                         read_once(&works[i], who, atol(argv[4]));
                     } else write_once(&works[i], who, atol(argv[4]), 0);
