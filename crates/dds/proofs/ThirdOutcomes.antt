@@ -8,8 +8,7 @@ use lib.ListN.{length, getD}
 use Rattle.reader.specs.Answer.{inBytes}
 use Rattle.thirdcode.specs.declared.ThirdAnswer.{ThirdAnswer}
 use Rattle.thirdcode.specs.Column.{Column}
-use Rattle.thirdcode.specs.Rows.{eachColumn}
-use Rattle.thirdcode.specs.Answer.{checkCall, left, told, Does}
+use Rattle.thirdcode.specs.Answer.{checkCall, told, Does}
 use Rattle.dds.specs.Slices.{answerLength}
 use Rattle.dds.specs.Third.{thirdOutcome, checkOutcome, thirdCall, ddsThirdCheck}
 

@@ -1,6 +1,6 @@
 -- The refusals that need no column: what each call knows where there is none, and what it answers where there is one.
 -- Assumes nothing.
-use mathlib.Core.Path.{_≡_, refl, sym, ap, _∙_}
+use mathlib.Core.Path.{_≡_, refl, ap, _∙_}
 use mathlib.Core.Bool.{true, cond}
 use Prim.Native.Nat.{ℕ, _*_, _≤_, _<_}
 use native.Mathlib.Omega.{arith}
@@ -9,7 +9,7 @@ use borrow.Author.Tests.{not-false, leb-true, le-leb, eqb-true, eqb-false, eq-eq
 use Rattle.group.proofs.Tests.{both, and, passed}
 use Rattle.thirdcode.specs.declared.ThirdAnswer.{ThirdAnswer}
 use Rattle.thirdcode.specs.declared.ThirdAnswer.the-variants.{Refused}
-use Rattle.thirdcode.specs.Answer.{lengthKept, rowKept, makeRefusal, oneRefusal, twoRefusal, answerOf}
+use Rattle.thirdcode.specs.Answer.{lengthKept, makeRefusal, oneRefusal, twoRefusal, answerOf}
 
 -- A number that is the refusal.
 pub refused : {refusal number : ℕ} (rest : ThirdAnswer) → number ≡ refusal → (number ≡ 0 → ⊥) → Refused number 0 ≡ answerOf refusal rest

@@ -73,9 +73,6 @@ pub power-byte : (k : ℕ) → power k < 256
 unfolding power
 power-byte k = times-byte k 1 (omega arith)
 
-pub power-some : (k : ℕ) → k ≤ 255 → power k ≡ 0 → ⊥
-power-some k h e = let z : _≡_ {A = ℕ} 1 0 = times-none k 1 h (omega arith) (sym (power-is k) ∙ e) in omega arith
-
 -- Powers come round after 255.
 pub power-mod : (n : ℕ) → n < 510 → power (n % 255) ≡ power n
 power-mod n h = go (decLt n 255)

@@ -1,13 +1,13 @@
 -- What the code's tests on a column's sums say of the column.
 -- Assumes nothing.
-use mathlib.Core.Path.{_≡_, sym, ap₂, _∙_}
-use mathlib.Core.Bool.{true, false, _&&_}
+use mathlib.Core.Path.{_≡_, sym, _∙_}
+use mathlib.Core.Bool.{true, false}
 use Prim.Native.Nat.{ℕ, _≤_, _<_}
 use native.Mathlib.Omega.{arith}
 use lib.Dec.{eqb}
 use borrow.Author.Tests.{eq-eqb, ne-eqb, eqb-true, le-ltb, lt-ltb, ltb-true, ltb-false}
 use Rattle.group.proofs.Tests.{both, and}
-use Rattle.thirdcode.specs.Column.{Column, firstSum, secondSum, Lawful, lawful, wrongRow, wrongIn, mendable}
+use Rattle.thirdcode.specs.Column.{Column, firstSum, secondSum, Lawful, lawful, wrongIn, mendable}
 use Rattle.thirdcode.proofs.Mending.{wrongRow-small}
 
 module _ (col : Column) where

@@ -7,7 +7,7 @@ use native.Mathlib.Nat.{le-of-suc-le-suc, not-suc-le-zero}
 use native.Mathlib.Omega.{arith}
 use lib.Dec.{T, eqb, eqb→eq, ltb, ltb→lt}
 use lib.ListN.{getD}
-use Rattle.group.proofs.Computed.{below, listed-at}
+use Rattle.group.proofs.Computed.{below}
 use Rattle.thirdcode.specs.Field.{_⊕_, timesAlpha, times, power, polynomial}
 use Rattle.thirdcode.specs.Tables.{powersFrom, powerTable, powerAt, placeIn, logarithm, logarithmTable, logarithmAt}
 
@@ -28,10 +28,6 @@ unfolding powerAt powerTable power
 powerAt-is k h = powers-at 256 1 k h
 
 -- The table of logarithms, one computed test over each of its sides.
-pub logarithmAt-is : (byte : ℕ) → byte < 256 → logarithmAt byte ≡ logarithm byte
-unfolding logarithmAt logarithmTable
-logarithmAt-is byte h = listed-at logarithm 0 256 byte h
-
 back : ℕ → Bool
 back k = eqb (logarithmAt (powerAt k)) k
 

@@ -2,7 +2,7 @@
 -- Assumes nothing.
 use mathlib.Core.Path.{_≡_, refl, sym, ap, _∙_}
 use mathlib.Core.Logic.{_⊎_, inl, inr}
-use mathlib.Core.Bool.{Bool, true, false}
+use mathlib.Core.Bool.{true, false}
 use mathlib.Core.List.{List}
 use Prim.Native.Nat.{ℕ, _+_, _%_, _<_, _≤_}
 use native.Mathlib.Decide.{decLt}
@@ -12,9 +12,9 @@ use Rattle.thirdcode.specs.declared.ThirdAnswer.{ThirdAnswer}
 use Rattle.thirdcode.specs.declared.ThirdAnswer.the-variants.{Accepted, Refused}
 use Rattle.thirdcode.specs.Field.{power, times, product}
 use Rattle.thirdcode.specs.Tables.{powerAt, logarithmAt}
-use Rattle.thirdcode.specs.Column.{Column, firstSum, secondSum, Lawful, lawful, restoredOne, restoredTwo, wrongIn, mended, mendable}
+use Rattle.thirdcode.specs.Column.{Column, Lawful, lawful, restoredOne, restoredTwo, wrongIn, mended, mendable}
 use Rattle.thirdcode.specs.Rows.{column, eachColumn}
-use Rattle.thirdcode.specs.Answer.{firstFailing, makeCall, mendCall, checkCall, Makes, RestoresOne, RestoresTwo, Mends}
+use Rattle.thirdcode.specs.Answer.{firstFailing, mendCall, checkCall, Makes, RestoresOne, RestoresTwo, Mends}
 use Rattle.thirdcode.specs.Written.{ColumnBytes, Same, SameBut, SameButTwo, Lent, Written, Hopeless}
 use Rattle.thirdcode.proofs.TableLaws.{power-log}
 use Rattle.thirdcode.proofs.FieldLaws.{by-tables}

@@ -1,6 +1,6 @@
 -- `ThirdCode::check` meets its contract: refused, or told by the first column that breaks a rule. Assumes nothing.
 use borrow.Author.Needs.{needs}
-use mathlib.Core.Path.{_≡_, sym, _∙_}
+use mathlib.Core.Path.{sym, _∙_}
 use Rattle.thirdcode.proofs.Answers.{refused, let-through, found, not-found, make-kept}
 use Rattle.thirdcode.proofs.ThirdCode.check.Statement.{statement}
 use Rattle.thirdcode.proofs.ThirdCode.check.Tie as tie

@@ -1,8 +1,7 @@
 -- `ThirdCode::make` meets its contract: refused, or done to every column. Assumes nothing.
 use borrow.Author.Needs.{needs}
-use mathlib.Core.Path.{_≡_, refl, sym, _∙_}
+use mathlib.Core.Path.{refl, sym, _∙_}
 use native.Mathlib.Omega.{arith}
-use Rattle.thirdcode.specs.declared.ThirdAnswer.the-variants.{Accepted}
 use Rattle.thirdcode.proofs.Answers.{refused, let-through, make-kept}
 use Rattle.thirdcode.proofs.ThirdCode.make.Statement.{statement}
 use Rattle.thirdcode.proofs.ThirdCode.make.Tie as tie

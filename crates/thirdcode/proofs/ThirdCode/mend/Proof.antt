@@ -1,7 +1,6 @@
 -- `ThirdCode::mend` meets its contract: refused by its lengths or by a column, or every column mended. Assumes nothing.
 use borrow.Author.Needs.{needs}
-use mathlib.Core.Path.{_≡_, refl, sym, ap, _∙_}
-use Prim.Native.Nat.{ℕ}
+use mathlib.Core.Path.{refl, sym, ap, _∙_}
 use Rattle.thirdcode.specs.declared.ThirdAnswer.the-variants.{Refused}
 use Rattle.thirdcode.proofs.Answers.{refused, let-through, found, not-found, make-kept}
 use Rattle.thirdcode.proofs.ThirdCode.mend.Statement.{statement}

@@ -1,6 +1,6 @@
 -- `restore_both` meets its contract: the columns below c are done, the rest are as they were. Assumes nothing.
 use borrow.Author.Needs.{needs}
-use mathlib.Core.Path.{_≡_, _∙_}
+use mathlib.Core.Path.{_∙_}
 use Prim.Native.Nat.{_-_, _≤_}
 use native.Mathlib.Omega.{arith}
 use Rattle.thirdcode.specs.Column.{restoredTwo}
