@@ -9,7 +9,7 @@ use borrow.Author.Tests.{not-false, leb-true, le-leb, eqb-true, eqb-false, eq-eq
 use Rattle.group.proofs.Tests.{both, and, passed}
 use Rattle.thirdcode.specs.declared.ThirdAnswer.{ThirdAnswer}
 use Rattle.thirdcode.specs.declared.ThirdAnswer.the-variants.{Refused}
-use Rattle.thirdcode.specs.Answer.{lengthKept, makeRefusal, oneRefusal, twoRefusal, answerOf}
+use Rattle.thirdcode.specs.Answer.{lengthKept, lengthRefusal, oneRefusal, twoRefusal, answerOf}
 
 -- A number that is the refusal.
 pub refused : {refusal number : ℕ} (rest : ThirdAnswer) → number ≡ refusal → (number ≡ 0 → ⊥) → Refused number 0 ≡ answerOf refusal rest
@@ -41,12 +41,12 @@ unfolding lengthKept
 length-kept total n k = and (le-leb 1 n (k .some)) (eq-eqb total (46 * n) (k .long))
 
 module _ (total n : ℕ) where
-  pub make-kept : makeRefusal total n ≡ 0 → Kept total n
-  unfolding makeRefusal
+  pub make-kept : lengthRefusal total n ≡ 0 → Kept total n
+  unfolding lengthRefusal
   make-kept e = kept-length total n (not-false _ (passed _ _ e .0))
 
-  pub make-lets : Kept total n → makeRefusal total n ≡ 0
-  unfolding makeRefusal
+  pub make-lets : Kept total n → lengthRefusal total n ≡ 0
+  unfolding lengthRefusal
   make-lets k = rw (length-kept total n k)
 
   pub one-kept : (i : ℕ) → oneRefusal total n i ≡ 0 → Kept total n × (i ≤ 45)

@@ -19,9 +19,9 @@ lengthKept total n = leb 1 n && eqb total (46 * n)
 abbrev pub rowKept : ℕ → Bool
 rowKept i = leb i 45
 
--- The refusals that need no column, "in that order"; 0 for none.
-unfoldable pub makeRefusal : ℕ → ℕ → ℕ
-makeRefusal total n = cond (not (lengthKept total n)) 40 0
+-- The refusals that need no column, "in that order"; 0 for none. Making, checking and mending have the first alone.
+unfoldable pub lengthRefusal : ℕ → ℕ → ℕ
+lengthRefusal total n = cond (not (lengthKept total n)) 40 0
 
 unfoldable pub oneRefusal : ℕ → ℕ → ℕ → ℕ
 oneRefusal total n i = cond (not (lengthKept total n)) 40 (cond (not (rowKept i)) 41 0)
@@ -32,6 +32,7 @@ twoRefusal total n i j =
     cond (not (lengthKept total n)) 40
     (cond (not (rowKept i)) 41 (cond (not (rowKept j)) 41 (cond (eqb i j) 42 0)))
 
+-- What a call answers: such a refusal, or the rest.
 abbrev pub answerOf : ℕ → ThirdAnswer → ThirdAnswer
 answerOf refusal rest = cond (eqb refusal 0) rest (Refused refusal 0)
 
@@ -41,7 +42,7 @@ firstFailing test rows n c zero = c
 firstFailing test rows n c (suc k) = cond (test (column rows n c)) (firstFailing test rows n (suc c) k) c
 
 abbrev pub makeCall : ℕ → ℕ → ThirdAnswer
-makeCall total n = answerOf (makeRefusal total n) (Accepted 0)
+makeCall total n = answerOf (lengthRefusal total n) (Accepted 0)
 
 abbrev pub oneCall : ℕ → ℕ → ℕ → ThirdAnswer
 oneCall total n i = answerOf (oneRefusal total n i) (Accepted 0)
@@ -53,12 +54,12 @@ twoCall total n i j = answerOf (twoRefusal total n i j) (Accepted 0)
 abbrev pub mendCall : List ℕ → ℕ → ThirdAnswer
 mendCall rows n =
     let c = firstFailing mendable rows n 0 n in
-    answerOf (makeRefusal (length rows) n) (cond (ltb c n) (Refused 43 c) (Accepted 0))
+    answerOf (lengthRefusal (length rows) n) (cond (ltb c n) (Refused 43 c) (Accepted 0))
 
 -- Checking: outcome 0 where every column keeps both rules, 1 where one does not.
 abbrev pub checkCall : List ℕ → ℕ → ThirdAnswer
 checkCall rows n =
-    answerOf (makeRefusal (length rows) n) (cond (ltb (firstFailing lawful rows n 0 n) n) (Accepted 1) (Accepted 0))
+    answerOf (lengthRefusal (length rows) n) (cond (ltb (firstFailing lawful rows n 0 n) n) (Accepted 1) (Accepted 0))
 
 -- The buffer after a call: as it was where it is refused ("the whole buffer then stays").
 abbrev pub left : ThirdAnswer → List ℕ → List ℕ → List ℕ

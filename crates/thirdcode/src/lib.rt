@@ -28,7 +28,7 @@ impl ThirdCode {
     pub fn make(n: u32, rows: &mut [u8]) -> ThirdAnswer
         ensures { λ r. ⌜ Makes n (now (rows .entry)) r (now (rows .exit)) ⌝ }
     {
-        let number = refusals::make_refusal(rows.len(), n);
+        let number = refusals::length_refusal(rows.len(), n);
         if number != 0 {
             return ThirdAnswer::Refused { number, place: 0 };
         }
@@ -45,7 +45,7 @@ impl ThirdCode {
     pub fn check(n: u32, rows: &[u8]) -> ThirdAnswer
         ensures { λ r. ⌜ r ≡ checkCall (now (rows .entry)) n ⌝ }
     {
-        let number = refusals::make_refusal(rows.len(), n);
+        let number = refusals::length_refusal(rows.len(), n);
         if number != 0 {
             return ThirdAnswer::Refused { number, place: 0 };
         }
@@ -83,7 +83,7 @@ impl ThirdCode {
     pub fn mend(n: u32, rows: &mut [u8]) -> ThirdAnswer
         ensures { λ r. ⌜ Mends n (now (rows .entry)) r (now (rows .exit)) ⌝ }
     {
-        let number = refusals::make_refusal(rows.len(), n);
+        let number = refusals::length_refusal(rows.len(), n);
         if number != 0 {
             return ThirdAnswer::Refused { number, place: 0 };
         }

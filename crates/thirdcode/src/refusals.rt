@@ -1,6 +1,6 @@
 // The refusals that need no column, in their order; 0 for none.
 ghost use mathlib.Core.Path.{_≡_};
-ghost use Rattle.thirdcode.specs.Answer.{lengthKept, makeRefusal, oneRefusal, twoRefusal};
+ghost use Rattle.thirdcode.specs.Answer.{lengthKept, lengthRefusal, oneRefusal, twoRefusal};
 
 // Whether the buffer is 46 rows of a row length that is not 0. Compared by division: 46 rows may be more than a number holds.
 fn length_kept(total: usize, n: usize) -> bool
@@ -15,8 +15,8 @@ fn length_kept(total: usize, n: usize) -> bool
     total / 46 == n
 }
 
-pub(crate) fn make_refusal(total: usize, n: u32) -> u32
-    ensures { λ r. ⌜ r ≡ makeRefusal total n ⌝ }
+pub(crate) fn length_refusal(total: usize, n: u32) -> u32
+    ensures { λ r. ⌜ r ≡ lengthRefusal total n ⌝ }
 {
     if !length_kept(total, n as usize) {
         return 40;

@@ -7,12 +7,12 @@ use Rattle.thirdcode.proofs.ThirdCode.make.Statement.{statement}
 use Rattle.thirdcode.proofs.ThirdCode.make.Tie as tie
 
 refuses : tie.Need-returns
-refuses c = record { answer = refused _ (c .before .make-refusal .ensures) (c .if1 .taken); rows-left = refl }
+refuses c = record { answer = refused _ (c .before .length-refusal .ensures) (c .if1 .taken); rows-left = refl }
 
 may : tie.Need-restore-both-requires
 may c κs =
     let i = c .before in
-    let k = make-kept _ _ (sym (i .before .make-refusal .ensures) ∙ i .if1 .left) in
+    let k = make-kept _ _ (sym (i .before .length-refusal .ensures) ∙ i .if1 .left) in
     (omega arith, omega arith, (λ e. absurd (omega arith)), k .long)
 
 does : tie.Need-returns-2
@@ -20,7 +20,7 @@ does c =
     let d = c .before .before in
     let i = d .before .before in
     record {
-      answer = let-through _ (sym (i .before .make-refusal .ensures) ∙ i .if1 .left);
+      answer = let-through _ (sym (i .before .length-refusal .ensures) ∙ i .if1 .left);
       rows-left = d .restore-both .ensures;
     }
 

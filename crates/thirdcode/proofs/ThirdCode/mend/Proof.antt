@@ -7,13 +7,13 @@ use Rattle.thirdcode.proofs.ThirdCode.mend.Statement.{statement}
 use Rattle.thirdcode.proofs.ThirdCode.mend.Tie as tie
 
 refuses : tie.Need-returns
-refuses c = record { answer = refused _ (c .before .make-refusal .ensures) (c .if1 .taken); rows-left = refl }
+refuses c = record { answer = refused _ (c .before .length-refusal .ensures) (c .if1 .taken); rows-left = refl }
 
 may-judge : tie.Need-first-hopeless-requires
 may-judge c κs =
     let t = c .before .before in
     let i = t .before in
-    (t .logarithm-table .ensures, make-kept _ _ (sym (i .before .make-refusal .ensures) ∙ i .if1 .left) .long)
+    (t .logarithm-table .ensures, make-kept _ _ (sym (i .before .length-refusal .ensures) ∙ i .if1 .left) .long)
 
 tells : tie.Need-returns-2
 tells c =
@@ -21,7 +21,7 @@ tells c =
     let i = f .before .before .before .before in
     record {
       answer = ap (Refused 43) (f .first-hopeless .ensures .0) ∙ found _ _ (f .first-hopeless .ensures .0) (c .if2 .taken)
-          ∙ let-through _ (sym (i .before .make-refusal .ensures) ∙ i .if1 .left);
+          ∙ let-through _ (sym (i .before .length-refusal .ensures) ∙ i .if1 .left);
       rows-left = refl;
     }
 
@@ -32,7 +32,7 @@ may-mend c κs =
     let t = f .before .before .before in
     let i = t .before in (
       t .logarithm-table .ensures,
-      make-kept _ _ (sym (i .before .make-refusal .ensures) ∙ i .if1 .left) .long,
+      make-kept _ _ (sym (i .before .length-refusal .ensures) ∙ i .if1 .left) .long,
       search needs,
     )
 
@@ -44,7 +44,7 @@ mends c =
     let i = f .before .before .before .before in
     record {
       answer = not-found _ _ (f .first-hopeless .ensures .0) (g .if2 .left)
-          ∙ let-through _ (sym (i .before .make-refusal .ensures) ∙ i .if1 .left);
+          ∙ let-through _ (sym (i .before .length-refusal .ensures) ∙ i .if1 .left);
       rows-left = m .mend-columns .ensures;
     }
 
