@@ -20,23 +20,27 @@ static num product(num a, num b)
     return whole;
 }
 
-static num alpha_to(num k)
-{
-    num p = 1;
-    while (k--) p = product(p, 2);
-    return p;
-}
-
 /* ---- "In each column the 46 bytes add to zero, and so do the bytes of rows i, from 0 to 45, times alpha^(45 - i)." */
+
+/* both sums over all rows but a and b, from the last row, whose weight is 1; the weights of a and b on the way */
+typedef struct { num first, second, weight_a, weight_b; } sums;
+
+static sums sums_without(const uint8_t column[46], num a, num b)
+{
+    sums s = { 0, 0, 0, 0 };
+    num i, weight = 1;
+    for (i = 46; i-- > 0; weight = product(weight, 2)) {
+        if (i == a) s.weight_a = weight;
+        else if (i == b) s.weight_b = weight;
+        else { s.first ^= column[i]; s.second ^= product(column[i], weight); }
+    }
+    return s;
+}
 
 static int keeps_rules(const uint8_t column[46])
 {
-    num i, first = 0, second = 0;
-    for (i = 0; i < 46; i++) {
-        first ^= column[i];
-        second ^= product(column[i], alpha_to(45 - i));
-    }
-    return first == 0 && second == 0;
+    sums s = sums_without(column, 46, 46);
+    return s.first == 0 && s.second == 0;
 }
 
 static void take_column(const uint8_t *rows, num row_len, num c, uint8_t column[46])
@@ -63,11 +67,14 @@ static uint8_t rest_of(const uint8_t column[46], num row)
 /* every byte tried in one row, the other being what is left, until both rules hold */
 static void try_both(uint8_t column[46], num a, num b)
 {
+    sums s = sums_without(column, a, b);
     num byte;
     for (byte = 0; byte < 256; byte++) {
+        num other = s.first ^ byte;
+        if (s.second != (product(byte, s.weight_a) ^ product(other, s.weight_b))) continue;
         column[a] = (uint8_t)byte;
-        column[b] = rest_of(column, b);
-        if (keeps_rules(column)) return;
+        column[b] = (uint8_t)other;
+        return;
     }
 }
 
@@ -77,10 +84,10 @@ static int try_each(uint8_t column[46])
     num i;
     if (keeps_rules(column)) return 1;
     for (i = 0; i < 46; i++) {
-        uint8_t was = column[i];
-        column[i] = rest_of(column, i);
-        if (keeps_rules(column)) return 1;
-        column[i] = was;
+        sums s = sums_without(column, i, i);
+        if (s.second != product(s.first, s.weight_a)) continue;
+        column[i] = (uint8_t)s.first;
+        return 1;
     }
     return 0;
 }
