@@ -8,7 +8,7 @@ use native.Mathlib.Omega.{arith}
 use Rattle.thirdcode.specs.Field.{_⊕_, timesAlpha, times, power}
 use Rattle.thirdcode.specs.Tables.{powerAt, logarithmAt}
 use Rattle.thirdcode.proofs.Adding.{⊕-self, times-⊕, times-zero}
-use Rattle.thirdcode.proofs.TableLaws.{powerAt-is, log-power, power-log, power-255, times-byte}
+use Rattle.thirdcode.proofs.TableLaws.{powerAt-is, logarithm-power, power-logarithm, power-255, times-byte}
 
 pub times-add : (a b x : ℕ) → times (a + b) x ≡ times a (times b x)
 unfolding times
@@ -31,15 +31,15 @@ unfolding power
 power-swap a b = times-comm a b 1
 
 -- What holds of 0 and of every power holds of every byte.
-pub by-log : (P : ℕ → Type 0) → P 0 → ((m : ℕ) → m < 255 → P (power m)) → (x : ℕ) → x < 256 → P x
-by-log P z f x h = go (ℕ-discrete x 0)
+pub by-logarithm : (P : ℕ → Type 0) → P 0 → ((m : ℕ) → m < 255 → P (power m)) → (x : ℕ) → x < 256 → P x
+by-logarithm P z f x h = go (ℕ-discrete x 0)
   where
     go : Dec (x ≡ 0) → P x
     go (yes e) = subst P (sym e) z
-    go (no d) = let p = power-log x h d in subst P (p .0) (f (logarithmAt x) (p .1))
+    go (no d) = let p = power-logarithm x h d in subst P (p .0) (f (logarithmAt x) (p .1))
 
 pub times-255 : (x : ℕ) → x < 256 → times 255 x ≡ x
-times-255 = by-log (λ (x : ℕ). times 255 x ≡ x) (times-zero 255) (λ m h. power-swap 255 m ∙ ap (times m) power-255 ∙ sym (power-is m))
+times-255 = by-logarithm (λ (x : ℕ). times 255 x ≡ x) (times-zero 255) (λ m h. power-swap 255 m ∙ ap (times m) power-255 ∙ sym (power-is m))
 
 -- To multiply by α^k and then by α^(255 − k) changes nothing.
 pub times-back : (k x : ℕ) → k ≤ 255 → x < 256 → times (255 - k) (times k x) ≡ x
@@ -57,17 +57,17 @@ times-none k x hk h e = sym (times-back k x hk h) ∙ ap (times (255 - k)) e ∙
 -- (α^a + α^b) x is α^k x, where α^a + α^b is α^k.
 pub times-sum : (a b k x : ℕ) → power a ⊕ power b ≡ power k → x < 256 → times a x ⊕ times b x ≡ times k x
 times-sum a b k x e h =
-    by-log (λ (x : ℕ). times a x ⊕ times b x ≡ times k x) none
+    by-logarithm (λ (x : ℕ). times a x ⊕ times b x ≡ times k x) none
     (λ m hm. ap₂ _⊕_ (power-swap a m) (power-swap b m) ∙ sym (times-⊕ m (power a) (power b)) ∙ ap (times m) e ∙ power-swap m k) x h
   where
     none : times a 0 ⊕ times b 0 ≡ times k 0
     none = ap₂ _⊕_ (times-zero a) (times-zero b) ∙ ⊕-self 0 ∙ sym (times-zero k)
 
-pub log-of-power : (k : ℕ) → k < 255 → logarithmAt (power k) ≡ k
-log-of-power k h = ap logarithmAt (sym (powerAt-is k (omega arith))) ∙ log-power k h
+pub logarithm-of-power : (k : ℕ) → k < 255 → logarithmAt (power k) ≡ k
+logarithm-of-power k h = ap logarithmAt (sym (powerAt-is k (omega arith))) ∙ logarithm-power k h
 
 pub power-same : (a b : ℕ) → a < 255 → b < 255 → power a ≡ power b → a ≡ b
-power-same a b ha hb e = sym (log-of-power a ha) ∙ ap logarithmAt e ∙ log-of-power b hb
+power-same a b ha hb e = sym (logarithm-of-power a ha) ∙ ap logarithmAt e ∙ logarithm-of-power b hb
 
 pub power-byte : (k : ℕ) → power k < 256
 unfolding power
@@ -93,7 +93,7 @@ power-mod n h = go (decLt n 255)
 -- The product by the tables.
 pub by-tables : (k x : ℕ) → k ≤ 255 → x < 256 → (x ≡ 0 → ⊥) → times k x ≡ powerAt ((logarithmAt x + k) % 255)
 by-tables k x hk h d =
-    let p = power-log x h d in
+    let p = power-logarithm x h d in
     let s : (logarithmAt x + k) % 255 < 256 = omega arith in
     ap (times k) (sym (p .0)) ∙ sym (power-add k (logarithmAt x)) ∙ ap power (add-comm k (logarithmAt x))
     ∙ sym (power-mod (logarithmAt x + k) (omega (arith, p .1))) ∙ sym (powerAt-is ((logarithmAt x + k) % 255) s)

@@ -9,8 +9,8 @@ use Rattle.thirdcode.specs.Tables.{logarithmAt}
 use Rattle.thirdcode.specs.Column.{firstSum, secondSum, withRow, Lawful, rowOfWeight, wrongRow, mended}
 use Rattle.thirdcode.specs.Written.{SameBut, ColumnBytes, Hopeless}
 use Rattle.thirdcode.proofs.Adding.{⊕-comm, ⊕-back, ⊕-undo, ⊕-equal, ⊕-byte, times-zero}
-use Rattle.thirdcode.proofs.TableLaws.{power-log, log-byte}
-use Rattle.thirdcode.proofs.FieldLaws.{times-none, power-mod, power-add, log-of-power}
+use Rattle.thirdcode.proofs.TableLaws.{power-logarithm, logarithm-byte}
+use Rattle.thirdcode.proofs.FieldLaws.{times-none, power-mod, power-add, logarithm-of-power}
 use Rattle.thirdcode.proofs.Totals.{one-first, one-second, withRow-same, withRow-other}
 use Rattle.thirdcode.proofs.Restoring.{first-byte, second-byte, lawful-same, drops, unchanged}
 
@@ -41,12 +41,12 @@ unfolding rowOfWeight
 row-high d h = rw (lt-leb d 45 h)
 
 -- The logarithm of α^k times a byte.
-log-times : (k x : ℕ) → k < 255 → x < 256 → (x ≡ 0 → ⊥) → logarithmAt (times k x) ≡ (k + logarithmAt x) % 255
-log-times k x hk h d =
-    let p = power-log x h d in
+logarithm-times : (k x : ℕ) → k < 255 → x < 256 → (x ≡ 0 → ⊥) → logarithmAt (times k x) ≡ (k + logarithmAt x) % 255
+logarithm-times k x hk h d =
+    let p = power-logarithm x h d in
     ap (λ (y : ℕ). logarithmAt (times k y)) (sym (p .0))
     ∙ ap logarithmAt (sym (power-add k (logarithmAt x)) ∙ sym (power-mod (k + logarithmAt x) (omega (arith, p .1))))
-    ∙ log-of-power ((k + logarithmAt x) % 255) (omega arith)
+    ∙ logarithm-of-power ((k + logarithmAt x) % 255) (omega arith)
 
 distance : (j l m : ℕ) → j < 46 → l < 255 → m ≡ (45 - j + l) % 255 → (m + (255 - l)) % 255 ≡ 45 - j
 distance j l m hj hl e = go (45 - j) (omega arith) e
@@ -59,7 +59,7 @@ pub wrongRow-at : (j e : ℕ) → j < 46 → e < 256 → (e ≡ 0 → ⊥) → w
 wrongRow-at j e l h d =
     let a : 45 - j < 255 = omega arith in
     let p : (logarithmAt (times (45 - j) e) + (255 - logarithmAt e)) % 255 ≡ 45 - j =
-    distance j (logarithmAt e) (logarithmAt (times (45 - j) e)) l (log-byte e h) (log-times (45 - j) e a h d) in
+    distance j (logarithmAt e) (logarithmAt (times (45 - j) e)) l (logarithm-byte e h) (logarithm-times (45 - j) e a h d) in
     wrongRow-both e (times (45 - j) e) d (λ z. d (times-none (45 - j) e (omega arith) h z))
     ∙ ap rowOfWeight p ∙ row-low (45 - j) (omega arith) ∙ back j l
   where
@@ -67,82 +67,82 @@ wrongRow-at j e l h d =
     back j l = omega arith
 
 -- A lawful column of which at most one byte was changed.
-module _ (g w : ℕ → ℕ) (j : ℕ) (l : j < 46) (bg : ColumnBytes g) (bw : ColumnBytes w) (law : Lawful w) (h : SameBut j g w) where
-  sum-is : firstSum g ≡ g j ⊕ w j
-  sum-is = drops (firstSum g) (firstSum w) (law .first) ∙ one-first g w j l h
+module _ (col w : ℕ → ℕ) (j : ℕ) (l : j < 46) (bg : ColumnBytes col) (bw : ColumnBytes w) (law : Lawful w) (h : SameBut j col w) where
+  sum-is : firstSum col ≡ col j ⊕ w j
+  sum-is = drops (firstSum col) (firstSum w) (law .first) ∙ one-first col w j l h
 
-  sum2-is : secondSum g ≡ times (45 - j) (g j ⊕ w j)
-  sum2-is = drops (secondSum g) (secondSum w) (law .second) ∙ one-second g w j l h
+  sum2-is : secondSum col ≡ times (45 - j) (col j ⊕ w j)
+  sum2-is = drops (secondSum col) (secondSum w) (law .second) ∙ one-second col w j l h
 
   -- The wrong row is that row, or none where nothing was changed.
   data Found : Type 0 where
-    untouched : g j ≡ w j → wrongRow (firstSum g) (secondSum g) ≡ 46 → Found
-    touched : wrongRow (firstSum g) (secondSum g) ≡ j → Found
+    untouched : col j ≡ w j → wrongRow (firstSum col) (secondSum col) ≡ 46 → Found
+    touched : wrongRow (firstSum col) (secondSum col) ≡ j → Found
 
   found : Found
-  found = go (ℕ-discrete (g j ⊕ w j) 0)
+  found = go (ℕ-discrete (col j ⊕ w j) 0)
     where
-      go : Dec (g j ⊕ w j ≡ 0) → Found
+      go : Dec (col j ⊕ w j ≡ 0) → Found
       go (yes e) =
-          untouched (⊕-equal (g j) (w j) e)
-          (wrongRow-none (firstSum g) (secondSum g) (sum-is ∙ e) (sum2-is ∙ ap (times (45 - j)) e ∙ times-zero (45 - j)))
-      go (no d) = touched (ap₂ wrongRow sum-is sum2-is ∙ wrongRow-at j (g j ⊕ w j) l (⊕-byte (g j) (w j) (bg j l) (bw j l)) d)
+          untouched (⊕-equal (col j) (w j) e)
+          (wrongRow-none (firstSum col) (secondSum col) (sum-is ∙ e) (sum2-is ∙ ap (times (45 - j)) e ∙ times-zero (45 - j)))
+      go (no d) = touched (ap₂ wrongRow sum-is sum2-is ∙ wrongRow-at j (col j ⊕ w j) l (⊕-byte (col j) (w j) (bg j l) (bw j l)) d)
 
   -- It is not refused.
-  pub not-refused : wrongRow (firstSum g) (secondSum g) < 47
+  pub not-refused : wrongRow (firstSum col) (secondSum col) < 47
   not-refused = go found
     where
-      go : Found → wrongRow (firstSum g) (secondSum g) < 47
+      go : Found → wrongRow (firstSum col) (secondSum col) < 47
       go (untouched e f) = omega arith
       go (touched f) = omega arith
 
   -- And is given back as it was.
-  pub mended-right : (i : ℕ) → i < 46 → mended g i ≡ w i
+  pub mended-right : (i : ℕ) → i < 46 → mended col i ≡ w i
   unfolding mended
   mended-right i li = go found (ℕ-discrete i j)
     where
       v : ℕ → ℕ
-      v r = g r ⊕ firstSum g
+      v r = col r ⊕ firstSum col
 
-      go : Found → Dec (i ≡ j) → withRow g (wrongRow (firstSum g) (secondSum g)) (v (wrongRow (firstSum g) (secondSum g))) i ≡ w i
-      go (untouched e f) (yes p) = withRow-other g _ _ i (λ q. absurd (omega (arith, q))) ∙ ap g p ∙ e ∙ ap w (sym p)
-      go (untouched e f) (no d) = withRow-other g _ _ i (λ q. absurd (omega (arith, q))) ∙ h i li d
+      go : Found → Dec (i ≡ j) → withRow col (wrongRow (firstSum col) (secondSum col)) (v (wrongRow (firstSum col) (secondSum col))) i ≡ w i
+      go (untouched e f) (yes p) = withRow-other col _ _ i (λ q. absurd (omega (arith, q))) ∙ ap col p ∙ e ∙ ap w (sym p)
+      go (untouched e f) (no d) = withRow-other col _ _ i (λ q. absurd (omega (arith, q))) ∙ h i li d
       go (touched f) (yes p) =
-          ap (λ (r : ℕ). withRow g r (v r) i) f ∙ ap (withRow g j (v j)) p ∙ withRow-same g j (v j)
-          ∙ ap (λ (x : ℕ). g j ⊕ x) sum-is ∙ ⊕-back (g j) (w j) ∙ ap w (sym p)
-      go (touched f) (no d) = ap (λ (r : ℕ). withRow g r (v r) i) f ∙ withRow-other g j (v j) i d ∙ h i li d
+          ap (λ (r : ℕ). withRow col r (v r) i) f ∙ ap (withRow col j (v j)) p ∙ withRow-same col j (v j)
+          ∙ ap (λ (x : ℕ). col j ⊕ x) sum-is ∙ ⊕-back (col j) (w j) ∙ ap w (sym p)
+      go (touched f) (no d) = ap (λ (r : ℕ). withRow col r (v r) i) f ∙ withRow-other col j (v j) i d ∙ h i li d
 
 -- Where mending refuses, no change of one byte makes the column lawful.
-pub no-mending : (g : ℕ → ℕ) → ColumnBytes g → wrongRow (firstSum g) (secondSum g) ≡ 47
-    → (w : ℕ → ℕ) (j : ℕ) → j < 46 → ColumnBytes w → SameBut j g w → Lawful w → ⊥
-no-mending g bg e w j l bw h law = let n = not-refused g w j l bg bw law h in absurd (omega arith)
+pub no-mending : (col : ℕ → ℕ) → ColumnBytes col → wrongRow (firstSum col) (secondSum col) ≡ 47
+    → (w : ℕ → ℕ) (j : ℕ) → j < 46 → ColumnBytes w → SameBut j col w → Lawful w → ⊥
+no-mending col bg e w j l bw h law = let n = not-refused col w j l bg bw law h in absurd (omega arith)
 
 -- Where it does not, the mended column is lawful.
-module _ (g : ℕ → ℕ) (b : ColumnBytes g) where
+module _ (col : ℕ → ℕ) (b : ColumnBytes col) where
   -- A change in row i, where the second sum is that of the first there.
-  lawful-at : (i : ℕ) → i < 46 → secondSum g ≡ times (45 - i) (firstSum g) → Lawful (withRow g i (g i ⊕ firstSum g))
-  lawful-at i l e = record { first = unchanged (firstSum r) (firstSum g) first; second = unchanged (secondSum r) (secondSum g) second }
+  lawful-at : (i : ℕ) → i < 46 → secondSum col ≡ times (45 - i) (firstSum col) → Lawful (withRow col i (col i ⊕ firstSum col))
+  lawful-at i l e = record { first = unchanged (firstSum r) (firstSum col) first; second = unchanged (secondSum r) (secondSum col) second }
     where
       r : ℕ → ℕ
-      r = withRow g i (g i ⊕ firstSum g)
+      r = withRow col i (col i ⊕ firstSum col)
 
-      same : SameBut i r g
-      same k lk d = withRow-other g i (g i ⊕ firstSum g) k d
+      same : SameBut i r col
+      same k lk d = withRow-other col i (col i ⊕ firstSum col) k d
 
-      change : r i ⊕ g i ≡ firstSum g
-      change = ap (λ (x : ℕ). x ⊕ g i) (withRow-same g i (g i ⊕ firstSum g) ∙ ⊕-comm (g i) (firstSum g)) ∙ ⊕-undo (firstSum g) (g i)
+      change : r i ⊕ col i ≡ firstSum col
+      change = ap (λ (x : ℕ). x ⊕ col i) (withRow-same col i (col i ⊕ firstSum col) ∙ ⊕-comm (col i) (firstSum col)) ∙ ⊕-undo (firstSum col) (col i)
 
-      first : firstSum r ⊕ firstSum g ≡ firstSum g
-      first = one-first r g i l same ∙ change
+      first : firstSum r ⊕ firstSum col ≡ firstSum col
+      first = one-first r col i l same ∙ change
 
-      second : secondSum r ⊕ secondSum g ≡ secondSum g
-      second = one-second r g i l same ∙ ap (times (45 - i)) change ∙ sym e
+      second : secondSum r ⊕ secondSum col ≡ secondSum col
+      second = one-second r col i l same ∙ ap (times (45 - i)) change ∙ sym e
 
   -- The second sum is α^d times the first, where d is the distance of their logarithms.
   reached : (s t : ℕ) → s < 256 → t < 256 → (s ≡ 0 → ⊥) → (t ≡ 0 → ⊥) → t ≡ times ((logarithmAt t + (255 - logarithmAt s)) % 255) s
   reached s t hs ht ds dt =
-      let p = power-log s hs ds in
-      let q = power-log t ht dt in
+      let p = power-logarithm s hs ds in
+      let q = power-logarithm t ht dt in
       let d = (logarithmAt t + (255 - logarithmAt s)) % 255 in
       sym (q .0) ∙ ap power (sum (logarithmAt s) (logarithmAt t) (p .1) (q .1)) ∙ power-mod (d + logarithmAt s) (omega (arith, p .1))
       ∙ power-add d (logarithmAt s) ∙ ap (times d) (p .0)
@@ -150,67 +150,67 @@ module _ (g : ℕ → ℕ) (b : ColumnBytes g) where
       sum : (l m : ℕ) → l < 255 → m < 255 → m ≡ ((m + (255 - l)) % 255 + l) % 255
       sum l m hl hm = omega arith
 
-  pub mended-lawful : (wrongRow (firstSum g) (secondSum g) ≡ 47 → ⊥) → Lawful (mended g)
+  pub mended-lawful : (wrongRow (firstSum col) (secondSum col) ≡ 47 → ⊥) → Lawful (mended col)
   unfolding mended
   mended-lawful n = go (ℕ-discrete s 0) (ℕ-discrete t 0)
     where
       s : ℕ
-      s = firstSum g
+      s = firstSum col
 
       t : ℕ
-      t = secondSum g
+      t = secondSum col
 
       d : ℕ
       d = (logarithmAt t + (255 - logarithmAt s)) % 255
 
       r : ℕ → ℕ → ℕ
-      r x = withRow g x (g x ⊕ s)
+      r x = withRow col x (col x ⊕ s)
 
       by-row : (s ≡ 0 → ⊥) → (t ≡ 0 → ⊥) → Dec (d < 46) → Lawful (r (wrongRow s t))
       by-row p q (yes l) =
           let back : 45 - (45 - d) ≡ d = omega arith in
           subst (λ (x : ℕ). Lawful (r x)) (sym (wrongRow-both s t p q ∙ row-low d (omega arith)))
-          (lawful-at (45 - d) (omega arith) (reached s t (first-byte g b) (second-byte g b) p q ∙ ap (λ (k : ℕ). times k s) (sym back)))
+          (lawful-at (45 - d) (omega arith) (reached s t (first-byte col b) (second-byte col b) p q ∙ ap (λ (k : ℕ). times k s) (sym back)))
       by-row p q (no u) = absurd (n (wrongRow-both s t p q ∙ row-high d (omega (arith, u))))
 
       go : Dec (s ≡ 0) → Dec (t ≡ 0) → Lawful (r (wrongRow s t))
       go (yes p) (yes q) =
-          lawful-same (r (wrongRow s t)) g (λ i l. withRow-other g _ _ i (λ e. let f = wrongRow-none s t p q in absurd (omega arith)))
+          lawful-same (r (wrongRow s t)) col (λ i l. withRow-other col _ _ i (λ e. let f = wrongRow-none s t p q in absurd (omega arith)))
           (record { first = p; second = q })
       go (yes p) (no q) = absurd (n (wrongRow-second s t p q))
       go (no p) (yes q) = absurd (n (wrongRow-first s t p q))
       go (no p) (no q) = by-row p q (decLt d 46)
 
 -- A mended column is of bytes.
-pub mended-bytes : (g : ℕ → ℕ) → ColumnBytes g → wrongRow (firstSum g) (secondSum g) < 47 → ColumnBytes (mended g)
+pub mended-bytes : (col : ℕ → ℕ) → ColumnBytes col → wrongRow (firstSum col) (secondSum col) < 47 → ColumnBytes (mended col)
 unfolding mended
-mended-bytes g b n i l = go (ℕ-discrete i (wrongRow (firstSum g) (secondSum g)))
+mended-bytes col b n i l = go (ℕ-discrete i (wrongRow (firstSum col) (secondSum col)))
   where
     r : ℕ
-    r = wrongRow (firstSum g) (secondSum g)
+    r = wrongRow (firstSum col) (secondSum col)
 
-    go : Dec (i ≡ r) → withRow g r (g r ⊕ firstSum g) i < 256
+    go : Dec (i ≡ r) → withRow col r (col r ⊕ firstSum col) i < 256
     go (yes e) =
-        subst (λ (x : ℕ). x < 256) (sym (ap (withRow g r (g r ⊕ firstSum g)) e ∙ withRow-same g r (g r ⊕ firstSum g)))
-        (⊕-byte (g r) (firstSum g) (subst (λ (x : ℕ). g x < 256) e (b i l)) (first-byte g b))
-    go (no d) = subst (λ (x : ℕ). x < 256) (sym (withRow-other g r (g r ⊕ firstSum g) i d)) (b i l)
+        subst (λ (x : ℕ). x < 256) (sym (ap (withRow col r (col r ⊕ firstSum col)) e ∙ withRow-same col r (col r ⊕ firstSum col)))
+        (⊕-byte (col r) (firstSum col) (subst (λ (x : ℕ). col x < 256) e (b i l)) (first-byte col b))
+    go (no d) = subst (λ (x : ℕ). x < 256) (sym (withRow-other col r (col r ⊕ firstSum col) i d)) (b i l)
 
 -- and so the column is not hopeless.
-pub not-hopeless : (g : ℕ → ℕ) → ColumnBytes g → wrongRow (firstSum g) (secondSum g) < 47 → Hopeless g → ⊥
+pub not-hopeless : (col : ℕ → ℕ) → ColumnBytes col → wrongRow (firstSum col) (secondSum col) < 47 → Hopeless col → ⊥
 unfolding mended
-not-hopeless g b n h = go (decLt r 46)
+not-hopeless col b n h = go (decLt r 46)
   where
     r : ℕ
-    r = wrongRow (firstSum g) (secondSum g)
+    r = wrongRow (firstSum col) (secondSum col)
 
-    law : Lawful (mended g)
-    law = mended-lawful g b (λ e. absurd (omega arith))
+    law : Lawful (mended col)
+    law = mended-lawful col b (λ e. absurd (omega arith))
 
     go : Dec (r < 46) → ⊥
-    go (yes l) = h (mended g) r l (mended-bytes g b n) (λ i li d. sym (withRow-other g r (g r ⊕ firstSum g) i d)) law
+    go (yes l) = h (mended col) r l (mended-bytes col b n) (λ i li d. sym (withRow-other col r (col r ⊕ firstSum col) i d)) law
     go (no l) =
-        h (mended g) 0 (omega arith) (mended-bytes g b n)
-        (λ i li d. sym (withRow-other g r (g r ⊕ firstSum g) i (λ e. absurd (omega (arith, l))))) law
+        h (mended col) 0 (omega arith) (mended-bytes col b n)
+        (λ i li d. sym (withRow-other col r (col r ⊕ firstSum col) i (λ e. absurd (omega (arith, l))))) law
 
 -- No row is wrong only where the first sum is 0.
 pub untouched-sum : (s t : ℕ) → wrongRow s t ≡ 46 → s ≡ 0

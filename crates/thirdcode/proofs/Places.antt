@@ -41,106 +41,106 @@ place-column n i c k d hc hd e =
     let m : i * n ≡ k * n = ap (λ (x : ℕ). x * n) r in
     omega arith
 
-module _ (g : List ℕ) (n c : ℕ) (size : length g ≡ 46 * n) (lc : c < n) where
-  inside : (i : ℕ) → i < 46 → i * n + c < length g
+module _ (rows : List ℕ) (n c : ℕ) (size : length rows ≡ 46 * n) (lc : c < n) where
+  inside : (i : ℕ) → i < 46 → i * n + c < length rows
   inside i l = omega (arith, place-in n i c l lc)
 
   -- A byte put.
-  pub column-set : (i v : ℕ) → i < 46 → column (set g (i * n + c) v) n c ≡ withRow (column g n c) i v
+  pub column-set : (i v : ℕ) → i < 46 → column (set rows (i * n + c) v) n c ≡ withRow (column rows n c) i v
   unfolding column
   column-set i v l = fun-ext (λ k. go k (ℕ-discrete k i))
     where
-      go : (k : ℕ) → Dec (k ≡ i) → getD (set g (i * n + c) v) (k * n + c) 0 ≡ withRow (column g n c) i v k
+      go : (k : ℕ) → Dec (k ≡ i) → getD (set rows (i * n + c) v) (k * n + c) 0 ≡ withRow (column rows n c) i v k
       go k (yes e) =
-          ap (λ (m : ℕ). getD (set g (i * n + c) v) (m * n + c) 0) e ∙ getD-set-same g (i * n + c) v 0 (inside i l)
-          ∙ sym (withRow-same (column g n c) i v) ∙ ap (withRow (column g n c) i v) (sym e)
+          ap (λ (m : ℕ). getD (set rows (i * n + c) v) (m * n + c) 0) e ∙ getD-set-same rows (i * n + c) v 0 (inside i l)
+          ∙ sym (withRow-same (column rows n c) i v) ∙ ap (withRow (column rows n c) i v) (sym e)
       go k (no d) =
-          getD-set-other g (i * n + c) (k * n + c) v 0 (λ e. d (place-row n k c i c lc lc e)) ∙ sym (withRow-other (column g n c) i v k d)
+          getD-set-other rows (i * n + c) (k * n + c) v 0 (λ e. d (place-row n k c i c lc lc e)) ∙ sym (withRow-other (column rows n c) i v k d)
 
-  pub column-other : (i v d : ℕ) → d < n → (d ≡ c → ⊥) → column (set g (i * n + c) v) n d ≡ column g n d
+  pub column-other : (i v d : ℕ) → d < n → (d ≡ c → ⊥) → column (set rows (i * n + c) v) n d ≡ column rows n d
   unfolding column
   column-other i v d ld p =
-      fun-ext (λ k. getD-set-other g (i * n + c) (k * n + d) v 0 (λ e. p (place-column n k d i c ld lc e)))
+      fun-ext (λ k. getD-set-other rows (i * n + c) (k * n + d) v 0 (λ e. p (place-column n k d i c ld lc e)))
 
   -- A byte changed.
-  pub column-changed : (i x : ℕ) → i < 46 → column (changed g n i c x) n c ≡ withRow (column g n c) i (column g n c i ⊕ x)
+  pub column-changed : (i x : ℕ) → i < 46 → column (changed rows n i c x) n c ≡ withRow (column rows n c) i (column rows n c i ⊕ x)
   unfolding changed
-  column-changed i x l = column-set i (column g n c i ⊕ x) l
+  column-changed i x l = column-set i (column rows n c i ⊕ x) l
 
-  pub changed-other : (i x d : ℕ) → d < n → (d ≡ c → ⊥) → column (changed g n i c x) n d ≡ column g n d
+  pub changed-other : (i x d : ℕ) → d < n → (d ≡ c → ⊥) → column (changed rows n i c x) n d ≡ column rows n d
   unfolding changed
-  changed-other i x d ld p = column-other i (column g n c i ⊕ x) d ld p
+  changed-other i x d ld p = column-other i (column rows n c i ⊕ x) d ld p
 
-pub changed-size : (g : List ℕ) (n i c x : ℕ) → length (changed g n i c x) ≡ length g
+pub changed-size : (rows : List ℕ) (n i c x : ℕ) → length (changed rows n i c x) ≡ length rows
 unfolding changed
-changed-size g n i c x = length-set g (i * n + c) (column g n c i ⊕ x)
+changed-size rows n i c x = length-set rows (i * n + c) (column rows n c i ⊕ x)
 
 -- The code's store.
-pub stored : (g : List ℕ) (n i c x p : ℕ) → p ≡ i * n + c → set g p (bitXor (getD g p 0) x) ≡ changed g n i c x
+pub stored : (rows : List ℕ) (n i c x p : ℕ) → p ≡ i * n + c → set rows p (bitXor (getD rows p 0) x) ≡ changed rows n i c x
 unfolding changed column _⊕_
-stored g n i c x p e = rw e
+stored rows n i c x p e = rw e
 
 -- A turn each.
-module _ (g : List ℕ) (n c : ℕ) (size : length g ≡ 46 * n) (lc : c < n) where
-  pub turn-one : (g′ : List ℕ) (i s : ℕ) → i < 46 → s ≡ firstSum (column g n c) → g′ ≡ changed g n i c s → Turn (restoredOne i) n c g g′
+module _ (rows : List ℕ) (n c : ℕ) (size : length rows ≡ 46 * n) (lc : c < n) where
+  pub turn-one : (rows′ : List ℕ) (i s : ℕ) → i < 46 → s ≡ firstSum (column rows n c) → rows′ ≡ changed rows n i c s → Turn (restoredOne i) n c rows rows′
   unfolding restoredOne
-  turn-one g′ i s l e h =
+  turn-one rows′ i s l e h =
       record {
-        size = ap length h ∙ changed-size g n i c s;
-        here = ap (λ (x : List ℕ). column x n c) h ∙ column-changed g n c size lc i s l ∙ ap (λ (x : ℕ). withRow (column g n c) i (column g n c i ⊕ x)) e;
-        other = λ d ld p. ap (λ (x : List ℕ). column x n d) h ∙ changed-other g n c size lc i s d ld p;
+        size = ap length h ∙ changed-size rows n i c s;
+        here = ap (λ (x : List ℕ). column x n c) h ∙ column-changed rows n c size lc i s l ∙ ap (λ (x : ℕ). withRow (column rows n c) i (column rows n c i ⊕ x)) e;
+        other = λ d ld p. ap (λ (x : List ℕ). column x n d) h ∙ changed-other rows n c size lc i s d ld p;
       }
 
-  pub turn-two : (g₁ g₂ : List ℕ) (i j x y : ℕ) → i < 46 → j < 46 → (i ≡ j → ⊥)
-      → x ≡ lacking i j (firstSum (column g n c)) (secondSum (column g n c)) → y ≡ firstSum (column g n c) ⊕ x
-      → g₁ ≡ changed g n i c x → g₂ ≡ changed g₁ n j c y → Turn (restoredTwo i j) n c g g₂
+  pub turn-two : (rows₁ rows₂ : List ℕ) (i j x y : ℕ) → i < 46 → j < 46 → (i ≡ j → ⊥)
+      → x ≡ lacking i j (firstSum (column rows n c)) (secondSum (column rows n c)) → y ≡ firstSum (column rows n c) ⊕ x
+      → rows₁ ≡ changed rows n i c x → rows₂ ≡ changed rows₁ n j c y → Turn (restoredTwo i j) n c rows rows₂
   unfolding restoredTwo
-  turn-two g₁ g₂ i j x y li lj d ex ey h₁ h₂ =
+  turn-two rows₁ rows₂ i j x y li lj d ex ey h₁ h₂ =
       record {
-        size = ap length h₂ ∙ changed-size g₁ n j c y ∙ size₁;
-        here = ap (λ (u : List ℕ). column u n c) h₂ ∙ column-changed g₁ n c (size₁ ∙ size) lc j y lj ∙ both;
+        size = ap length h₂ ∙ changed-size rows₁ n j c y ∙ size₁;
+        here = ap (λ (u : List ℕ). column u n c) h₂ ∙ column-changed rows₁ n c (size₁ ∙ size) lc j y lj ∙ both;
         other = λ e le p.
-            ap (λ (u : List ℕ). column u n e) h₂ ∙ changed-other g₁ n c (size₁ ∙ size) lc j y e le p
-            ∙ ap (λ (u : List ℕ). column u n e) h₁ ∙ changed-other g n c size lc i x e le p;
+            ap (λ (u : List ℕ). column u n e) h₂ ∙ changed-other rows₁ n c (size₁ ∙ size) lc j y e le p
+            ∙ ap (λ (u : List ℕ). column u n e) h₁ ∙ changed-other rows n c size lc i x e le p;
       }
     where
       col : ℕ → ℕ
-      col = column g n c
+      col = column rows n c
 
-      size₁ : length g₁ ≡ length g
-      size₁ = ap length h₁ ∙ changed-size g n i c x
+      size₁ : length rows₁ ≡ length rows
+      size₁ = ap length h₁ ∙ changed-size rows n i c x
 
-      one : column g₁ n c ≡ withRow col i (col i ⊕ x)
-      one = ap (λ (u : List ℕ). column u n c) h₁ ∙ column-changed g n c size lc i x li
+      one : column rows₁ n c ≡ withRow col i (col i ⊕ x)
+      one = ap (λ (u : List ℕ). column u n c) h₁ ∙ column-changed rows n c size lc i x li
 
-      at-j : column g₁ n c j ≡ col j
+      at-j : column rows₁ n c j ≡ col j
       at-j = ap (λ (f : ℕ → ℕ). f j) one ∙ withRow-other col i (col i ⊕ x) j (λ e. d (sym e))
 
       t : ℕ
       t = lacking i j (firstSum col) (secondSum col)
 
-      both : withRow (column g₁ n c) j (column g₁ n c j ⊕ y) ≡ withRow (withRow col i (col i ⊕ t)) j (col j ⊕ (firstSum col ⊕ t))
+      both : withRow (column rows₁ n c) j (column rows₁ n c j ⊕ y) ≡ withRow (withRow col i (col i ⊕ t)) j (col j ⊕ (firstSum col ⊕ t))
       both =
           ap₂ (λ (f : ℕ → ℕ) (v : ℕ). withRow f j v) (one ∙ ap (λ (z : ℕ). withRow col i (col i ⊕ z)) ex)
           (ap₂ _⊕_ at-j (ey ∙ ap (λ (z : ℕ). firstSum col ⊕ z) ex))
 
-  pub turn-mend : (g′ : List ℕ) (r s : ℕ) → r < 46 → s ≡ firstSum (column g n c)
-      → r ≡ wrongRow (firstSum (column g n c)) (secondSum (column g n c)) → g′ ≡ changed g n r c s → Turn mended n c g g′
+  pub turn-mend : (rows′ : List ℕ) (r s : ℕ) → r < 46 → s ≡ firstSum (column rows n c)
+      → r ≡ wrongRow (firstSum (column rows n c)) (secondSum (column rows n c)) → rows′ ≡ changed rows n r c s → Turn mended n c rows rows′
   unfolding mended
-  turn-mend g′ r s l e f h =
+  turn-mend rows′ r s l e f h =
       record {
-        size = ap length h ∙ changed-size g n r c s;
-        here = ap (λ (x : List ℕ). column x n c) h ∙ column-changed g n c size lc r s l
-            ∙ ap₂ (λ (x q : ℕ). withRow (column g n c) q (column g n c q ⊕ x)) e f;
-        other = λ d ld p. ap (λ (x : List ℕ). column x n d) h ∙ changed-other g n c size lc r s d ld p;
+        size = ap length h ∙ changed-size rows n r c s;
+        here = ap (λ (x : List ℕ). column x n c) h ∙ column-changed rows n c size lc r s l
+            ∙ ap₂ (λ (x q : ℕ). withRow (column rows n c) q (column rows n c q ⊕ x)) e f;
+        other = λ d ld p. ap (λ (x : List ℕ). column x n d) h ∙ changed-other rows n c size lc r s d ld p;
       }
 
-  pub turn-none : wrongRow (firstSum (column g n c)) (secondSum (column g n c)) ≡ 46 → Turn mended n c g g
+  pub turn-none : wrongRow (firstSum (column rows n c)) (secondSum (column rows n c)) ≡ 46 → Turn mended n c rows rows
   unfolding mended
   turn-none f = record { size = refl; here = fun-ext (λ i. sym (same i)); other = λ d ld p. refl }
     where
       col : ℕ → ℕ
-      col = column g n c
+      col = column rows n c
 
       r : ℕ
       r = wrongRow (firstSum col) (secondSum col)
@@ -156,25 +156,25 @@ module _ (g : List ℕ) (n c : ℕ) (size : length g ≡ 46 * n) (lc : c < n) wh
       same i = go i (ℕ-discrete i r)
 
 -- Turns add up: f is done to the columns below c, and nothing to the rest.
-pub record Upto (f : Column → Column) (n c : ℕ) (g g′ : List ℕ) : Type 0 where
-  pub size : length g′ ≡ length g
-  pub done : (d : ℕ) → d < n → d < c → column g′ n d ≡ f (column g n d)
-  pub rest : (d : ℕ) → d < n → c ≤ d → column g′ n d ≡ column g n d
+pub record Upto (f : Column → Column) (n c : ℕ) (rows rows′ : List ℕ) : Type 0 where
+  pub size : length rows′ ≡ length rows
+  pub done : (d : ℕ) → d < n → d < c → column rows′ n d ≡ f (column rows n d)
+  pub rest : (d : ℕ) → d < n → c ≤ d → column rows′ n d ≡ column rows n d
 
-pub upto-none : (f : Column → Column) (n : ℕ) (g : List ℕ) → Upto f n 0 g g
-upto-none f n g = record { size = refl; done = λ d ld h. absurd (omega arith); rest = λ d ld h. refl }
+pub upto-none : (f : Column → Column) (n : ℕ) (rows : List ℕ) → Upto f n 0 rows rows
+upto-none f n rows = record { size = refl; done = λ d ld h. absurd (omega arith); rest = λ d ld h. refl }
 
-pub upto-next : (f : Column → Column) (n c : ℕ) (g g′ g″ : List ℕ) → c < n → Upto f n c g g′ → Turn f n c g′ g″ → Upto f n (c + 1) g g″
-upto-next f n c g g′ g″ lc u t =
+pub upto-next : (f : Column → Column) (n c : ℕ) (rows rows′ rows″ : List ℕ) → c < n → Upto f n c rows rows′ → Turn f n c rows′ rows″ → Upto f n (c + 1) rows rows″
+upto-next f n c rows rows′ rows″ lc u t =
     record {
       size = t .size ∙ u .size;
       done = λ d ld h. below d ld h (ℕ-discrete d c);
       rest = λ d ld h. t .other d ld (λ e. absurd (omega arith)) ∙ u .rest d ld (omega arith);
     }
   where
-    below : (d : ℕ) → d < n → d < c + 1 → Dec (d ≡ c) → column g″ n d ≡ f (column g n d)
+    below : (d : ℕ) → d < n → d < c + 1 → Dec (d ≡ c) → column rows″ n d ≡ f (column rows n d)
     below d ld h (yes e) =
-        ap (column g″ n) e ∙ t .here ∙ ap f (u .rest c lc (omega arith)) ∙ ap (λ (x : ℕ). f (column g n x)) (sym e)
+        ap (column rows″ n) e ∙ t .here ∙ ap f (u .rest c lc (omega arith)) ∙ ap (λ (x : ℕ). f (column rows n x)) (sym e)
     below d ld h (no p) = t .other d ld p ∙ u .done d ld (omega (arith, p))
 
 -- The buffer with f done to every column, by its columns.
@@ -214,7 +214,7 @@ same-rows n rows rows′ e e′ h = ext-getD 0 rows rows′ (e ∙ sym e′) at
         let whole : p / n * n + p % n ≡ p = div-add-mod' p n in
         ap (λ (x : ℕ). getD rows x 0) (sym whole) ∙ h (p % n) (p / n) (mod-lt p pos) low ∙ ap (λ (x : ℕ). getD rows′ x 0) whole
 
-pub upto-all : (f : Column → Column) (n c : ℕ) (g g′ : List ℕ) → length g ≡ 46 * n → n ≤ c → Upto f n c g g′ → g′ ≡ eachColumn f n g
-upto-all f n c g g′ long h u =
-    same-rows n g′ (eachColumn f n g) (u .size ∙ long) (length-each f n g)
-    (λ d i ld li. ap (λ (col : Column). col i) (u .done d ld (omega arith)) ∙ sym (column-each f n g d i ld li))
+pub upto-all : (f : Column → Column) (n c : ℕ) (rows rows′ : List ℕ) → length rows ≡ 46 * n → n ≤ c → Upto f n c rows rows′ → rows′ ≡ eachColumn f n rows
+upto-all f n c rows rows′ long h u =
+    same-rows n rows′ (eachColumn f n rows) (u .size ∙ long) (length-each f n rows)
+    (λ d i ld li. ap (λ (col : Column). col i) (u .done d ld (omega arith)) ∙ sym (column-each f n rows d i ld li))

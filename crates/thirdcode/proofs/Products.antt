@@ -12,8 +12,8 @@ use Rattle.thirdcode.specs.Column.{total, secondSum}
 use Rattle.thirdcode.specs.Written.{ColumnBytes}
 use Rattle.group.proofs.Computed.{below}
 use Rattle.thirdcode.proofs.Adding.{⊕-self, ⊕-four, timesAlpha-⊕, times-zero}
-use Rattle.thirdcode.proofs.TableLaws.{power-log, power-255, times-byte}
-use Rattle.thirdcode.proofs.FieldLaws.{power-is, power-add, power-swap, by-log, power-byte}
+use Rattle.thirdcode.proofs.TableLaws.{power-logarithm, power-255, times-byte}
+use Rattle.thirdcode.proofs.FieldLaws.{power-is, power-add, power-swap, by-logarithm, power-byte}
 use Rattle.thirdcode.proofs.Totals.{total-same}
 use Rattle.thirdcode.proofs.Steps.{timesAlpha-zero}
 
@@ -76,31 +76,31 @@ zero-product m = product-power 0 m (omega arith) ∙ times-zero m
 
 pub product-comm : (a b : ℕ) → a < 256 → b < 256 → product a b ≡ product b a
 product-comm a b ha hb =
-    by-log (λ (y : ℕ). product a y ≡ product y a)
-    (product-zero a ha ∙ sym (by-log (λ (x : ℕ). product 0 x ≡ 0) (product-zero 0 (omega arith)) (λ m h. zero-product m) a ha))
+    by-logarithm (λ (y : ℕ). product a y ≡ product y a)
+    (product-zero a ha ∙ sym (by-logarithm (λ (x : ℕ). product 0 x ≡ 0) (product-zero 0 (omega arith)) (λ m h. zero-product m) a ha))
     (λ m h. product-power a m ha ∙ sym (right m)) b hb
   where
     right : (m : ℕ) → product (power m) a ≡ times m a
     right m =
-        by-log (λ (x : ℕ). product (power m) x ≡ times m x) (product-zero (power m) (power-byte m) ∙ sym (times-zero m))
+        by-logarithm (λ (x : ℕ). product (power m) x ≡ times m x) (product-zero (power m) (power-byte m) ∙ sym (times-zero m))
         (λ l h. product-power (power m) l (power-byte m) ∙ power-swap l m) a ha
 
 -- Products of products.
 pub product-assoc : (a b c : ℕ) → a < 256 → b < 256 → c < 256 → product (product a b) c ≡ product a (product b c)
 product-assoc a b c ha hb hc =
-    by-log (λ (z : ℕ). product (product a b) z ≡ product a (product b z))
+    by-logarithm (λ (z : ℕ). product (product a b) z ≡ product a (product b z))
     (product-zero (product a b) byte ∙ sym (ap (product a) (product-zero b hb) ∙ product-zero a ha))
     (λ m h. product-power (product a b) m byte ∙ sym (ap (product a) (product-power b m hb) ∙ product-times m a b)) c hc
   where
     byte : product a b < 256
     byte =
-        by-log (λ (y : ℕ). product a y < 256) (subst (λ (x : ℕ). x < 256) (sym (product-zero a ha)) (omega arith))
+        by-logarithm (λ (y : ℕ). product a y < 256) (subst (λ (x : ℕ). x < 256) (sym (product-zero a ha)) (omega arith))
         (λ m h. subst (λ (x : ℕ). x < 256) (sym (product-power a m ha)) (times-byte m a ha)) b hb
 
 -- Every byte but 0 has an inverse.
 pub product-inverse : (a : ℕ) → a < 256 → (a ≡ 0 → ⊥) → product a (power (255 - logarithmAt a)) ≡ 1
 product-inverse a h d =
-    let p = power-log a h d in
+    let p = power-logarithm a h d in
     let e : 255 - logarithmAt a + logarithmAt a ≡ 255 = whole (logarithmAt a) (p .1) in
     product-power a (255 - logarithmAt a) h ∙ ap (times (255 - logarithmAt a)) (sym (p .0)) ∙ sym (power-add (255 - logarithmAt a) (logarithmAt a)) ∙ ap power e ∙ power-255
   where

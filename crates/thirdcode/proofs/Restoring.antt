@@ -9,7 +9,7 @@ use Rattle.thirdcode.specs.Tables.{powerAt}
 use Rattle.thirdcode.specs.Column.{total, firstSum, secondSum, withRow, Lawful, apart, lacking, restoredOne, restoredTwo}
 use Rattle.thirdcode.specs.Written.{SameBut, SameButTwo, ColumnBytes}
 use Rattle.thirdcode.proofs.Adding.{⊕-zero, ⊕-comm, ⊕-self, ⊕-assoc, ⊕-back, ⊕-undo, ⊕-equal, ⊕-byte, times-⊕}
-use Rattle.thirdcode.proofs.TableLaws.{powerAt-is, power-log, times-byte}
+use Rattle.thirdcode.proofs.TableLaws.{powerAt-is, power-logarithm, times-byte}
 use Rattle.thirdcode.proofs.FieldLaws.{times-forth, times-none, times-sum, power-same, power-byte}
 use Rattle.thirdcode.proofs.Totals.{total-same, one-first, two-first, two-second, withRow-same, withRow-other}
 
@@ -19,13 +19,13 @@ unfolding total
 total-byte f zero h = omega arith
 total-byte f (suc n) h = ⊕-byte (total f n) (f n) (total-byte f n (λ i l. h i (omega arith))) (h n (le-refl (suc n)))
 
-pub first-byte : (g : ℕ → ℕ) → ColumnBytes g → firstSum g < 256
+pub first-byte : (col : ℕ → ℕ) → ColumnBytes col → firstSum col < 256
 unfolding firstSum
-first-byte g h = total-byte g 46 h
+first-byte col h = total-byte col 46 h
 
-pub second-byte : (g : ℕ → ℕ) → ColumnBytes g → secondSum g < 256
+pub second-byte : (col : ℕ → ℕ) → ColumnBytes col → secondSum col < 256
 unfolding secondSum
-second-byte g h = total-byte (λ i. times (45 - i) (g i)) 46 (λ i l. times-byte (45 - i) (g i) (h i l))
+second-byte col h = total-byte (λ i. times (45 - i) (col i)) 46 (λ i l. times-byte (45 - i) (col i) (h i l))
 
 first-same : (v w : ℕ → ℕ) → ((i : ℕ) → i < 46 → v i ≡ w i) → firstSum v ≡ firstSum w
 unfolding firstSum
@@ -47,16 +47,16 @@ pub unchanged : (a b : ℕ) → a ⊕ b ≡ b → a ≡ 0
 unchanged a b e = sym (⊕-undo a b) ∙ ap (λ (x : ℕ). x ⊕ b) e ∙ ⊕-self b
 
 -- One row restored: whatever it held, it is as written if the others are.
-pub restored-one : (j : ℕ) (g w : ℕ → ℕ) → j < 46 → Lawful w → SameBut j g w → (i : ℕ) → i < 46 → restoredOne j g i ≡ w i
+pub restored-one : (j : ℕ) (col w : ℕ → ℕ) → j < 46 → Lawful w → SameBut j col w → (i : ℕ) → i < 46 → restoredOne j col i ≡ w i
 unfolding restoredOne
-restored-one j g w l law h i li = go (ℕ-discrete i j)
+restored-one j col w l law h i li = go (ℕ-discrete i j)
   where
-    sum : firstSum g ≡ g j ⊕ w j
-    sum = drops (firstSum g) (firstSum w) (law .first) ∙ one-first g w j l h
+    sum : firstSum col ≡ col j ⊕ w j
+    sum = drops (firstSum col) (firstSum w) (law .first) ∙ one-first col w j l h
 
-    go : Dec (i ≡ j) → withRow g j (g j ⊕ firstSum g) i ≡ w i
-    go (yes e) = ap (withRow g j (g j ⊕ firstSum g)) e ∙ withRow-same g j (g j ⊕ firstSum g) ∙ ap (λ (x : ℕ). g j ⊕ x) sum ∙ ⊕-back (g j) (w j) ∙ ap w (sym e)
-    go (no d) = withRow-other g j (g j ⊕ firstSum g) i d ∙ h i li d
+    go : Dec (i ≡ j) → withRow col j (col j ⊕ firstSum col) i ≡ w i
+    go (yes e) = ap (withRow col j (col j ⊕ firstSum col)) e ∙ withRow-same col j (col j ⊕ firstSum col) ∙ ap (λ (x : ℕ). col j ⊕ x) sum ∙ ⊕-back (col j) (w j) ∙ ap w (sym e)
+    go (no d) = withRow-other col j (col j ⊕ firstSum col) i d ∙ h i li d
 
 -- Two rows.
 module _ (j k : ℕ) (lj : j < 46) (lk : k < 46) (d : j ≡ k → ⊥) where
@@ -70,20 +70,20 @@ module _ (j k : ℕ) (lj : j < 46) (lk : k < 46) (d : j ≡ k → ⊥) where
   at-byte n h = subst (λ (x : ℕ). x < 256) (sym (powerAt-is n h)) (power-byte n)
 
   -- The two powers add to the power of their distance.
-  apart-log : (power (apart j k) ≡ powerAt (45 - j) ⊕ powerAt (45 - k)) × (apart j k < 255)
+  apart-logarithm : (power (apart j k) ≡ powerAt (45 - j) ⊕ powerAt (45 - k)) × (apart j k < 255)
   unfolding apart
-  apart-log =
-      power-log (powerAt (45 - j) ⊕ powerAt (45 - k))
+  apart-logarithm =
+      power-logarithm (powerAt (45 - j) ⊕ powerAt (45 - k))
       (⊕-byte _ _ (at-byte (45 - j) (omega arith)) (at-byte (45 - k) (omega arith))) some
 
   apart-power : power (45 - j) ⊕ power (45 - k) ≡ power (apart j k)
-  apart-power = sym (apart-log .0 ∙ ap₂ _⊕_ (powerAt-is (45 - j) (omega arith)) (powerAt-is (45 - k) (omega arith)))
+  apart-power = sym (apart-logarithm .0 ∙ ap₂ _⊕_ (powerAt-is (45 - j) (omega arith)) (powerAt-is (45 - k) (omega arith)))
 
   joint : (x : ℕ) → x < 256 → times (45 - j) x ⊕ times (45 - k) x ≡ times (apart j k) x
   joint x h = times-sum (45 - j) (45 - k) (apart j k) x apart-power h
 
   below-255 : apart j k ≤ 255
-  below-255 = omega (arith, apart-log .1)
+  below-255 = omega (arith, apart-logarithm .1)
 
   -- Two lawful columns that are the same but in two rows are the same.
   pub only-two : (v w : ℕ → ℕ) → Lawful v → Lawful w → ColumnBytes v → ColumnBytes w → SameButTwo j k v w → (i : ℕ) → i < 46 → v i ≡ w i
@@ -111,80 +111,80 @@ module _ (j k : ℕ) (lj : j < 46) (lk : k < 46) (d : j ≡ k → ⊥) where
       go (no p) (yes e) = ap v e ∙ ⊕-equal (v k) (w k) (sym same ∙ none) ∙ ap w (sym e)
       go (no p) (no q) = h i li p q
 
-  module _ (g : ℕ → ℕ) where
+  module _ (col : ℕ → ℕ) where
     -- What is added to row j.
     change : ℕ
-    change = lacking j k (firstSum g) (secondSum g)
+    change = lacking j k (firstSum col) (secondSum col)
 
-    two-at-j : restoredTwo j k g j ≡ g j ⊕ change
+    two-at-j : restoredTwo j k col j ≡ col j ⊕ change
     unfolding restoredTwo change
-    two-at-j = withRow-other (withRow g j (g j ⊕ change)) k (g k ⊕ (firstSum g ⊕ change)) j d ∙ withRow-same g j (g j ⊕ change)
+    two-at-j = withRow-other (withRow col j (col j ⊕ change)) k (col k ⊕ (firstSum col ⊕ change)) j d ∙ withRow-same col j (col j ⊕ change)
 
-    two-at-k : restoredTwo j k g k ≡ g k ⊕ (firstSum g ⊕ change)
+    two-at-k : restoredTwo j k col k ≡ col k ⊕ (firstSum col ⊕ change)
     unfolding restoredTwo change
-    two-at-k = withRow-same (withRow g j (g j ⊕ change)) k (g k ⊕ (firstSum g ⊕ change))
+    two-at-k = withRow-same (withRow col j (col j ⊕ change)) k (col k ⊕ (firstSum col ⊕ change))
 
-    pub two-else : (i : ℕ) → (i ≡ j → ⊥) → (i ≡ k → ⊥) → restoredTwo j k g i ≡ g i
+    pub two-else : (i : ℕ) → (i ≡ j → ⊥) → (i ≡ k → ⊥) → restoredTwo j k col i ≡ col i
     unfolding restoredTwo change
-    two-else i p q = withRow-other (withRow g j (g j ⊕ change)) k (g k ⊕ (firstSum g ⊕ change)) i q ∙ withRow-other g j (g j ⊕ change) i p
+    two-else i p q = withRow-other (withRow col j (col j ⊕ change)) k (col k ⊕ (firstSum col ⊕ change)) i q ∙ withRow-other col j (col j ⊕ change) i p
 
-    two-same : SameButTwo j k (restoredTwo j k g) g
+    two-same : SameButTwo j k (restoredTwo j k col) col
     two-same i l p q = two-else i p q
 
     added : (a b x : ℕ) → a ≡ b ⊕ x → a ⊕ b ≡ x
     added a b x e = ap (λ (y : ℕ). y ⊕ b) (e ∙ ⊕-comm b x) ∙ ⊕-undo x b
 
-    change-byte : ColumnBytes g → change < 256
+    change-byte : ColumnBytes col → change < 256
     unfolding change lacking
-    change-byte b = times-byte (255 - apart j k) _ (⊕-byte _ _ (second-byte g b) (times-byte (45 - k) _ (first-byte g b)))
+    change-byte b = times-byte (255 - apart j k) _ (⊕-byte _ _ (second-byte col b) (times-byte (45 - k) _ (first-byte col b)))
 
-    change-is : ColumnBytes g → times (apart j k) change ≡ secondSum g ⊕ times (45 - k) (firstSum g)
+    change-is : ColumnBytes col → times (apart j k) change ≡ secondSum col ⊕ times (45 - k) (firstSum col)
     unfolding change lacking
-    change-is b = times-forth (apart j k) _ below-255 (⊕-byte _ _ (second-byte g b) (times-byte (45 - k) _ (first-byte g b)))
+    change-is b = times-forth (apart j k) _ below-255 (⊕-byte _ _ (second-byte col b) (times-byte (45 - k) _ (first-byte col b)))
 
     -- Restoring two rows gives a lawful column, whatever the column held.
-    pub lawful-two : ColumnBytes g → Lawful (restoredTwo j k g)
+    pub lawful-two : ColumnBytes col → Lawful (restoredTwo j k col)
     lawful-two b = record { first = unchanged (firstSum r) s first; second = unchanged (secondSum r) t second }
       where
         r : ℕ → ℕ
-        r = restoredTwo j k g
+        r = restoredTwo j k col
 
         s : ℕ
-        s = firstSum g
+        s = firstSum col
 
         t : ℕ
-        t = secondSum g
+        t = secondSum col
 
-        at-j : r j ⊕ g j ≡ change
-        at-j = added (r j) (g j) change two-at-j
+        at-j : r j ⊕ col j ≡ change
+        at-j = added (r j) (col j) change two-at-j
 
-        at-k : r k ⊕ g k ≡ s ⊕ change
-        at-k = added (r k) (g k) (s ⊕ change) two-at-k
+        at-k : r k ⊕ col k ≡ s ⊕ change
+        at-k = added (r k) (col k) (s ⊕ change) two-at-k
 
         first : firstSum r ⊕ s ≡ s
-        first = two-first r g j k lj lk d two-same ∙ ap₂ _⊕_ at-j (at-k ∙ ⊕-comm s change) ∙ ⊕-back change s
+        first = two-first r col j k lj lk d two-same ∙ ap₂ _⊕_ at-j (at-k ∙ ⊕-comm s change) ∙ ⊕-back change s
 
         second : secondSum r ⊕ t ≡ t
         second =
-            two-second r g j k lj lk d two-same
+            two-second r col j k lj lk d two-same
             ∙ ap₂ (λ (x y : ℕ). times (45 - j) x ⊕ times (45 - k) y) at-j at-k
             ∙ ap (λ (x : ℕ). times (45 - j) change ⊕ x) (times-⊕ (45 - k) s change ∙ ⊕-comm (times (45 - k) s) (times (45 - k) change))
             ∙ sym (⊕-assoc (times (45 - j) change) (times (45 - k) change) (times (45 - k) s))
             ∙ ap (λ (x : ℕ). x ⊕ times (45 - k) s) (joint change (change-byte b) ∙ change-is b)
             ∙ ⊕-undo t (times (45 - k) s)
 
-    pub bytes-two : ColumnBytes g → ColumnBytes (restoredTwo j k g)
+    pub bytes-two : ColumnBytes col → ColumnBytes (restoredTwo j k col)
     bytes-two b i l = go (ℕ-discrete i j) (ℕ-discrete i k)
       where
-        go : Dec (i ≡ j) → Dec (i ≡ k) → restoredTwo j k g i < 256
-        go (yes e) q = subst (λ (x : ℕ). x < 256) (sym (ap (restoredTwo j k g) e ∙ two-at-j)) (⊕-byte (g j) change (b j lj) (change-byte b))
+        go : Dec (i ≡ j) → Dec (i ≡ k) → restoredTwo j k col i < 256
+        go (yes e) q = subst (λ (x : ℕ). x < 256) (sym (ap (restoredTwo j k col) e ∙ two-at-j)) (⊕-byte (col j) change (b j lj) (change-byte b))
         go (no p) (yes e) =
-            subst (λ (x : ℕ). x < 256) (sym (ap (restoredTwo j k g) e ∙ two-at-k))
-            (⊕-byte (g k) (firstSum g ⊕ change) (b k lk) (⊕-byte (firstSum g) change (first-byte g b) (change-byte b)))
+            subst (λ (x : ℕ). x < 256) (sym (ap (restoredTwo j k col) e ∙ two-at-k))
+            (⊕-byte (col k) (firstSum col ⊕ change) (b k lk) (⊕-byte (firstSum col) change (first-byte col b) (change-byte b)))
         go (no p) (no q) = subst (λ (x : ℕ). x < 256) (sym (two-else i p q)) (b i l)
 
     -- The two rows are as written, whatever they held, if the others are.
-    pub restored-two : (w : ℕ → ℕ) → ColumnBytes g → ColumnBytes w → Lawful w → SameButTwo j k g w
-        → (i : ℕ) → i < 46 → restoredTwo j k g i ≡ w i
+    pub restored-two : (w : ℕ → ℕ) → ColumnBytes col → ColumnBytes w → Lawful w → SameButTwo j k col w
+        → (i : ℕ) → i < 46 → restoredTwo j k col i ≡ w i
     restored-two w b bw law h =
-        only-two (restoredTwo j k g) w (lawful-two b) law (bytes-two b) bw (λ i l p q. two-else i p q ∙ h i l p q)
+        only-two (restoredTwo j k col) w (lawful-two b) law (bytes-two b) bw (λ i l p q. two-else i p q ∙ h i l p q)

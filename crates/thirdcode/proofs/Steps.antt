@@ -86,11 +86,11 @@ pub horner-second : (col : ℕ → ℕ) → horner col 46 ≡ secondSum col
 unfolding secondSum
 horner-second col = horner-total col 46
 
-pub first-step : (g : List ℕ) (n c i f p : ℕ) → f ≡ total (column g n c) i → p ≡ i * n + c → bitXor f (getD g p 0) ≡ total (column g n c) (i + 1)
+pub first-step : (rows : List ℕ) (n c i f p : ℕ) → f ≡ total (column rows n c) i → p ≡ i * n + c → bitXor f (getD rows p 0) ≡ total (column rows n c) (i + 1)
 unfolding total column _⊕_
-first-step g n c i f p e q = rw (e, q, add-one i)
+first-step rows n c i f p e q = rw (e, q, add-one i)
 
-pub second-step : (g : List ℕ) (n c i s d p : ℕ) → s ≡ horner (column g n c) i → d ≡ timesAlpha s → p ≡ i * n + c
-    → bitXor d (getD g p 0) ≡ horner (column g n c) (i + 1)
+pub second-step : (rows : List ℕ) (n c i s d p : ℕ) → s ≡ horner (column rows n c) i → d ≡ timesAlpha s → p ≡ i * n + c
+    → bitXor d (getD rows p 0) ≡ horner (column rows n c) (i + 1)
 unfolding horner column _⊕_
-second-step g n c i s d p e q r = rw (q, e, r, add-one i)
+second-step rows n c i s d p e q r = rw (q, e, r, add-one i)

@@ -35,9 +35,9 @@ back-all : (k : ℕ) → k < 255 → T (back k)
 unfolding back logarithmAt logarithmTable logarithm placeIn powerAt powerTable powersFrom timesAlpha _⊕_ polynomial
 back-all k h = below back 255 tt k h
 
-pub log-power : (k : ℕ) → k < 255 → logarithmAt (powerAt k) ≡ k
+pub logarithm-power : (k : ℕ) → k < 255 → logarithmAt (powerAt k) ≡ k
 unfolding back
-log-power k h = eqb→eq (logarithmAt (powerAt k)) k (back-all k h)
+logarithm-power k h = eqb→eq (logarithmAt (powerAt k)) k (back-all k h)
 
 forth : ℕ → Bool
 forth byte = eqb (powerAt (logarithmAt (suc byte))) (suc byte) && ltb (logarithmAt (suc byte)) 255
@@ -57,9 +57,9 @@ forth-parts byte h =
     (eqb→eq _ _ (p .0), ltb→lt _ _ (p .1))
 
 -- Every byte but 0 is the power that its logarithm says.
-pub power-log : (byte : ℕ) → byte < 256 → (byte ≡ 0 → ⊥) → (power (logarithmAt byte) ≡ byte) × (logarithmAt byte < 255)
-power-log zero h d = absurd (d refl)
-power-log (suc byte) h d =
+pub power-logarithm : (byte : ℕ) → byte < 256 → (byte ≡ 0 → ⊥) → (power (logarithmAt byte) ≡ byte) × (logarithmAt byte < 255)
+power-logarithm zero h d = absurd (d refl)
+power-logarithm (suc byte) h d =
     let p = forth-parts byte (le-of-suc-le-suc h) in
     (sym (powerAt-is (logarithmAt (suc byte)) (omega (arith, p .1))) ∙ p .0, p .1)
 
@@ -89,6 +89,6 @@ logarithmAt-zero : logarithmAt 0 ≡ 0
 unfolding logarithmAt logarithmTable logarithm
 logarithmAt-zero = refl
 
-pub log-byte : (byte : ℕ) → byte < 256 → logarithmAt byte < 255
-log-byte zero h = omega (arith, logarithmAt-zero)
-log-byte (suc byte) h = forth-parts byte (le-of-suc-le-suc h) .1
+pub logarithm-byte : (byte : ℕ) → byte < 256 → logarithmAt byte < 255
+logarithm-byte zero h = omega (arith, logarithmAt-zero)
+logarithm-byte (suc byte) h = forth-parts byte (le-of-suc-le-suc h) .1

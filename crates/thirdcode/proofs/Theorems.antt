@@ -16,7 +16,7 @@ use Rattle.thirdcode.specs.Column.{Column, Lawful, lawful, restoredOne, 
 use Rattle.thirdcode.specs.Rows.{column, eachColumn}
 use Rattle.thirdcode.specs.Answer.{firstFailing, mendCall, checkCall, Makes, RestoresOne, RestoresTwo, Mends}
 use Rattle.thirdcode.specs.Written.{ColumnBytes, Same, SameBut, SameButTwo, Lent, Written, Hopeless}
-use Rattle.thirdcode.proofs.TableLaws.{power-log}
+use Rattle.thirdcode.proofs.TableLaws.{power-logarithm}
 use Rattle.thirdcode.proofs.FieldLaws.{by-tables}
 use Rattle.thirdcode.proofs.Products.{product-power}
 use Rattle.thirdcode.proofs.Restoring.{only-two, restored-one, restored-two, lawful-two, bytes-two, two-else}
@@ -35,7 +35,7 @@ true-false e = let z : _≡_ {A = ℕ} 0 1 = cc in omega arith
 pub third-product : (a b : ℕ) → a < 256 → b < 256 → (a ≡ 0 → ⊥) → (b ≡ 0 → ⊥)
     → product a b ≡ powerAt ((logarithmAt a + logarithmAt b) % 255)
 third-product a b ha hb da db =
-    let p = power-log b hb db in
+    let p = power-logarithm b hb db in
     ap (product a) (sym (p .0)) ∙ product-power a (logarithmAt b) ha ∙ by-tables (logarithmAt b) a (omega (arith, p .1)) ha da
 
 -- A byte times α^k, as the second rule has it, is the plain product.

@@ -6,7 +6,7 @@ use Prim.Native.Nat.{ℕ, _<_}
 use native.Mathlib.Omega.{arith}
 use lib.ListN.{getD}
 use Rattle.thirdcode.specs.Tables.{logarithmTable, logarithmAt}
-use Rattle.thirdcode.proofs.TableLaws.{log-byte}
+use Rattle.thirdcode.proofs.TableLaws.{logarithm-byte}
 use Rattle.thirdcode.proofs.tables.logarithm_of.Statement.{statement}
 use Rattle.thirdcode.proofs.tables.logarithm_of.Tie as tie
 
@@ -15,7 +15,7 @@ entry : (l : List ℕ) (b : ℕ) → l ≡ logarithmTable → b < 256 → (getD 
 unfolding logarithmAt
 entry l b e h =
     let p : getD l b 0 ≡ logarithmAt b = ap (λ (m : List ℕ). getD m b 0) e in
-    (p, omega (arith, log-byte b h))
+    (p, omega (arith, logarithm-byte b h))
 
 cast-result : tie.Need-cast-result
 cast-result c = let p = entry (c .before .args .logarithms .now) (c .before .args .byte) (c .before .pre) (search needs) in omega arith
