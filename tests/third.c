@@ -1,7 +1,9 @@
 /* The third code by hand: worked columns, every row and every pair of rows restored, every row mended, columns beyond mending,
-   every refusal and its order, lengths and fences. Every slice is compared before and after; the worked columns follow from
+   every refusal and its order, lengths, empty slices and fences. Every slice is compared before and after; the worked columns follow from
    change request 2026-08 by hand, as said beside them. */
 
+#define _DEFAULT_SOURCE
+#include "fence.h"
 #include "guard.h"
 
 enum { LEN = 5 }; /* the row length of most tests */
@@ -237,6 +239,54 @@ static void nothing_lent(void)
     }
 }
 
+/* no byte outside a slice is read or written, and a check does not write the rows */
+static void fences(void)
+{
+    int end;
+    for (end = 0; end < 2; end++) {
+        const size_t len = 46 * LEN;
+        uint8_t *rows = fenced(46 * LEN, end), *answer = fenced(24, end), whole[46 * LEN];
+        size_t i;
+        for (i = 0; i < 44 * LEN; i++) rows[i] = chance();
+        check(dds_third_make(LEN, rows, len, answer, 24) == 0, "fences", "make");
+        memcpy(whole, rows, len);
+        memset(rows, 0x11, LEN);
+        check(dds_third_restore_one(LEN, 0, rows, len, answer, 24) == 0 && memcmp(rows, whole, len) == 0, "fences", "restore one");
+        memset(rows, 0x22, LEN);
+        memset(rows + 45 * LEN, 0x33, LEN);
+        check(dds_third_restore_two(LEN, 45, 0, rows, len, answer, 24) == 0 && memcmp(rows, whole, len) == 0, "fences", "restore two");
+        rows[0] ^= 0x44;
+        rows[len - 1] ^= 0x55;
+        check(dds_third_mend(LEN, rows, len, answer, 24) == 0 && memcmp(rows, whole, len) == 0, "fences", "mend");
+        read_only(rows);
+        check(dds_third_check(LEN, rows, len, answer, 24) == 0 && get(answer + 8) == 0, "fences", "check");
+        check(dds_third_make(LEN + 1, rows, len, answer, 24) == 40, "fences", "refused");
+    }
+}
+
+/* 2^32 + 46 bytes are no 46 rows of one byte; in pages that are promised and not touched */
+static void long_slices(void)
+{
+#if SIZE_MAX > 0xFFFFFFFF
+    const size_t wide = (size_t)1 << 32;
+    uint8_t *none = mmap(0, wide + 4096, PROT_NONE, MAP_PRIVATE | MAP_ANONYMOUS | MAP_NORESERVE, -1, 0);
+    int call;
+    if (none == MAP_FAILED) { printf("third: slices above 2^32 bytes skipped, no address space\n"); return; }
+    for (call = MAKE; call < CALLS; call++) {
+        third t = lent_rows(1);
+        slice was = t.rows;
+        t.rows.at = none;
+        t.rows.base = 0;
+        t.rows.len = wide + 46;
+        calls(&t, (which)call, 1, 0, 1);
+        check(tells(&t, 40, 0, 0), call_name[call], "a length is not cut");
+        t.rows = was;
+        clear_third(&t);
+    }
+    munmap(none, wide + 4096);
+#endif
+}
+
 int main(void)
 {
     worked();
@@ -247,5 +297,7 @@ int main(void)
     rows_named();
     answer_lengths();
     nothing_lent();
+    fences();
+    long_slices();
     return finish("third");
 }
