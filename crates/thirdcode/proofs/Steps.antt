@@ -2,7 +2,7 @@
 use mathlib.Core.Path.{_≡_, refl, sym, ap, ap₂, _∙_}
 use mathlib.Core.Bool.{Bool}
 use mathlib.Core.List.{List}
-use Prim.Native.Nat.{ℕ, zero, suc, _+_, _-_, _*_, _<_, _≤_}
+use Prim.Native.Nat.{ℕ, zero, suc, _+_, _-_, _*_, _/_, _%_, _<_, _≤_}
 use native.Mathlib.Nat.{mul-le-mul-right, le-of-suc-le-suc}
 use native.Mathlib.Numerals.{add-one}
 use native.Mathlib.Omega.{arith}
@@ -16,32 +16,17 @@ use Rattle.group.proofs.Computed.{below}
 use Rattle.thirdcode.proofs.Adding.{timesAlpha-⊕}
 use Rattle.thirdcode.proofs.Totals.{total-same}
 
--- Doubling, below 128 and from 128 on.
-low : ℕ → Bool
-low b = eqb (b * 2) (timesAlpha b)
+-- Doubling a byte: its seven low bits go one up, and the eighth turns into 29.
+stepped : ℕ → Bool
+stepped b = eqb (bitXor (b % 128 * 2) (b / 128 * 29)) (timesAlpha b)
 
-low-all : (b : ℕ) → b < 128 → T (low b)
-unfolding low timesAlpha _⊕_ polynomial
-low-all b h = below low 128 tt b h
+stepped-all : (b : ℕ) → b < 256 → T (stepped b)
+unfolding stepped timesAlpha _⊕_ polynomial
+stepped-all b h = below stepped 256 tt b h
 
-pub timesAlpha-low : (b : ℕ) → b < 128 → b * 2 ≡ timesAlpha b
-unfolding low
-timesAlpha-low b h = eqb→eq (b * 2) (timesAlpha b) (low-all b h)
-
-high : ℕ → Bool
-high m = eqb (bitXor (m * 2) 29) (timesAlpha (m + 128))
-
-high-all : (m : ℕ) → m < 128 → T (high m)
-unfolding high timesAlpha _⊕_ polynomial
-high-all m h = below high 128 tt m h
-
-pub timesAlpha-high : (b : ℕ) → 128 ≤ b → b < 256 → bitXor ((b - 128) * 2) 29 ≡ timesAlpha b
-unfolding high
-timesAlpha-high b l h =
-    eqb→eq (bitXor ((b - 128) * 2) 29) (timesAlpha (b - 128 + 128)) (high-all (b - 128) (omega arith)) ∙ ap timesAlpha (whole b l)
-  where
-    whole : (b : ℕ) → 128 ≤ b → b - 128 + 128 ≡ b
-    whole b l = omega arith
+pub timesAlpha-stepped : (b : ℕ) → b < 256 → bitXor (b % 128 * 2) (b / 128 * 29) ≡ timesAlpha b
+unfolding stepped
+timesAlpha-stepped b h = eqb→eq (bitXor (b % 128 * 2) (b / 128 * 29)) (timesAlpha b) (stepped-all b h)
 
 -- A place lies in the buffer.
 pub place-in : (n i c : ℕ) → i < 46 → c < n → i * n + c < 46 * n

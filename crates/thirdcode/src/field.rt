@@ -5,15 +5,11 @@ ghost use Rattle.thirdcode.specs.Field.{timesAlpha, times};
 ghost use Rattle.thirdcode.specs.Tables.{powerTable, logarithmTable};
 use crate::tables;
 
-// α times a byte.
+// α times a byte. Without a jump or a choice: every byte of the buffer waits for it.
 pub(crate) fn times_alpha(byte: u8) -> u8
     ensures { λ r. ⌜ r ≡ timesAlpha byte ⌝ }
 {
-    if byte < 128 {
-        byte * 2
-    } else {
-        ((byte - 128) * 2) ^ 29
-    }
+    (byte % 128 * 2) ^ (byte / 128 * 29)
 }
 
 // α^k times a byte.
