@@ -1,7 +1,7 @@
 -- The theorems of change request 2026-08, each with its sentence above it.
 -- Assumes nothing.
 use mathlib.Core.Path.{_≡_, refl, sym, ap, _∙_}
-use mathlib.Core.Logic.{_⊎_, inl, inr}
+use mathlib.Core.Logic.{inl, inr}
 use mathlib.Core.Bool.{true, false}
 use mathlib.Core.List.{List}
 use Prim.Native.Nat.{ℕ, _+_, _%_, _<_, _≤_}
@@ -15,7 +15,7 @@ use Rattle.thirdcode.specs.Tables.{powerAt, logarithmAt}
 use Rattle.thirdcode.specs.Column.{Column, Lawful, lawful, restoredOne, restoredTwo, wrongIn, mended, mendable}
 use Rattle.thirdcode.specs.Rows.{column, eachColumn}
 use Rattle.thirdcode.specs.Answer.{firstFailing, mendCall, checkCall, Makes, RestoresOne, RestoresTwo, Mends}
-use Rattle.thirdcode.specs.Written.{ColumnBytes, Same, SameBut, SameButTwo, Lent, Written, Hopeless}
+use Rattle.thirdcode.specs.Written.{ColumnBytes, Same, SameBut, SameButTwo, Lent, Written, Hopeless, MendTold, CheckTold}
 use Rattle.thirdcode.proofs.TableLaws.{power-logarithm}
 use Rattle.thirdcode.proofs.FieldLaws.{by-tables}
 use Rattle.thirdcode.proofs.Products.{product-power}
@@ -124,14 +124,10 @@ module _ (n : ℕ) (w old : List ℕ) (a : ThirdAnswer) (rows : List ℕ) (whole
           last (yes h) = absurd (true-false (sym (all-within _ h) ∙ first mendable old n 0 n .at (omega arith)))
           last (no h) = omega (arith, h)
 
-abbrev pub FirstHopeless : ℕ → List ℕ → ℕ → Type 0
-FirstHopeless n old c = Hopeless (column old n c) × ((d : ℕ) → d < c → Hopeless (column old n d) → ⊥)
-
 -- "43 a column that no single change mends (the whole buffer then stays)": either every column is mended, or its place is a column
 -- that no single change mends, and the first of them.
 pub third-told : (n : ℕ) (old : List ℕ) (a : ThirdAnswer) (rows : List ℕ) → Lent n old → Mends n old a rows
-    → ((a ≡ Accepted 0) × Written n rows)
-    ⊎ ((c : ℕ) × ((c < n) × ((a ≡ Refused 43 c) × ((rows ≡ old) × FirstHopeless n old c))))
+    → MendTold n old a rows
 third-told n old a rows l m = by (decLt c n)
   where
     c : ℕ
@@ -152,7 +148,7 @@ third-told n old a rows l m = by (decLt c n)
         let p = is-within (column old n d) (first mendable old n 0 n .before d (omega arith) (omega arith)) in
         (mended-lawful (column old n d) (bytes-at d) (λ e. absurd (omega arith)), mended-bytes (column old n d) (bytes-at d) p)
 
-    by : Dec (c < n) → ((a ≡ Accepted 0) × Written n rows) ⊎ ((c : ℕ) × ((c < n) × ((a ≡ Refused 43 c) × ((rows ≡ old) × FirstHopeless n old c))))
+    by : Dec (c < n) → MendTold n old a rows
     by (yes h) =
         let e : mendCall old n ≡ Refused 43 c = sym (found {c = c} _ _ refl h ∙ let-through _ (make-lets (length old) n (kept-of l))) in
         inr (c, (h, (m .answer ∙ e, (refused-left _ _ n old a rows m 43 c e, (hopeless h, earlier)))))
@@ -161,14 +157,13 @@ third-told n old a rows l m = by (decLt c n)
         inl (m .answer ∙ e, rw (accepted-left _ _ n old a rows m 0 e) (written mended n old l (λ d ld. mends d ld (omega (arith, h)))))
 
 -- Checking tells whether every column keeps both rules.
-pub third-checked : (n : ℕ) (rows : List ℕ) (a : ThirdAnswer) → Lent n rows → a ≡ checkCall rows n
-    → ((a ≡ Accepted 0) × Written n rows) ⊎ ((a ≡ Accepted 1) × ((c : ℕ) × ((c < n) × (Lawful (column rows n c) → ⊥))))
+pub third-checked : (n : ℕ) (rows : List ℕ) (a : ThirdAnswer) → Lent n rows → a ≡ checkCall rows n → CheckTold n rows a
 third-checked n rows a l e = by (decLt c n)
   where
     c : ℕ
     c = firstFailing lawful rows n 0 n
 
-    by : Dec (c < n) → ((a ≡ Accepted 0) × Written n rows) ⊎ ((a ≡ Accepted 1) × ((c : ℕ) × ((c < n) × (Lawful (column rows n c) → ⊥))))
+    by : Dec (c < n) → CheckTold n rows a
     by (yes h) =
         inr (
           e ∙ sym (found {c = c} _ _ refl h ∙ let-through _ (make-lets (length rows) n (kept-of l))),

@@ -2,10 +2,13 @@
 -- column was changed".
 -- Assumes nothing.
 use mathlib.Core.Path.{_≡_}
+use mathlib.Core.Logic.{_⊎_}
 use mathlib.Core.List.{List}
 use Prim.Native.Nat.{ℕ, _*_, _<_}
 use lib.ListN.{length}
 use Rattle.group.specs.Numbers.{Bytes}
+use Rattle.thirdcode.specs.declared.ThirdAnswer.{ThirdAnswer}
+use Rattle.thirdcode.specs.declared.ThirdAnswer.the-variants.{Accepted, Refused}
 use Rattle.thirdcode.specs.Column.{Column, Lawful}
 use Rattle.thirdcode.specs.Rows.{column}
 
@@ -37,3 +40,19 @@ pub record Written (n : ℕ) (rows : List ℕ) : Type 0 where
 -- A column that no single change mends: no lawful column of bytes is the same but in one row.
 abbrev pub Hopeless : Column → Type 0
 Hopeless col = (w : Column) (j : ℕ) → j < 46 → ColumnBytes w → SameBut j col w → Lawful w → ⊥
+
+-- The first column that no single change mends.
+abbrev pub FirstHopeless : ℕ → List ℕ → ℕ → Type 0
+FirstHopeless n rows c = Hopeless (column rows n c) × ((d : ℕ) → d < c → Hopeless (column rows n d) → ⊥)
+
+-- "43 a column that no single change mends (the whole buffer then stays)": either every column is mended, or 43 tells the first
+-- column that none mends.
+abbrev pub MendTold : ℕ → List ℕ → ThirdAnswer → List ℕ → Type 0
+MendTold n old a rows =
+    ((a ≡ Accepted 0) × Written n rows)
+    ⊎ ((c : ℕ) × ((c < n) × ((a ≡ Refused 43 c) × ((rows ≡ old) × FirstHopeless n old c))))
+
+-- "check": outcome 0, and every column keeps both rules, or 1, and some column does not.
+abbrev pub CheckTold : ℕ → List ℕ → ThirdAnswer → Type 0
+CheckTold n rows a =
+    ((a ≡ Accepted 0) × Written n rows) ⊎ ((a ≡ Accepted 1) × ((c : ℕ) × ((c < n) × (Lawful (column rows n c) → ⊥))))
