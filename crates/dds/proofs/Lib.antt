@@ -4,5 +4,7 @@ pub mod Outcomes
 pub mod TrackOutcomes
 pub mod TrackTrip
 pub mod ThirdOutcomes
+pub mod LoaderOutcomes
+pub mod LoaderTrip
 pub mod States
 pub mod Settled

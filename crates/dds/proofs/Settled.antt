@@ -7,6 +7,7 @@ use Prim.Native.Nat.{ℕ}
 use Rattle.dds.specs.Calls.{Outcome, ddsReaderStart, ddsRead, ddsWriterStart, ddsRecord, ddsSeparator, ddsEnd}
 use Rattle.dds.specs.Tracks.{MakeOutcome, ReadOutcome, ddsSubdataMake, ddsSubdataRead}
 use Rattle.dds.specs.Third.{ThirdOutcome, CheckOutcome, ddsThirdMake, ddsThirdCheck, ddsThirdRestoreOne, ddsThirdRestoreTwo, ddsThirdMend}
+use Rattle.dds.specs.Loader.{LentOutcome, ddsVolumeMake, ddsVolumeRead, ddsAlertMake, ddsAlertRead, ddsRadioFind}
 
 same : {A : Type 0} {x a b : A} → a ≡ x → b ≡ x → a ≡ b
 same e f = e ∙ sym f
@@ -62,3 +63,21 @@ third-restore-two-settled n first second rows answer e f = same e f
 pub third-mend-settled : (n : ℕ) (rows answer : List ℕ) {a b : ThirdOutcome}
     → a ≡ ddsThirdMend n rows answer → b ≡ ddsThirdMend n rows answer → a ≡ b
 third-mend-settled n rows answer e f = same e f
+
+pub volume-make-settled : (fields volume answer : List ℕ) {a b : LentOutcome}
+    → a ≡ ddsVolumeMake fields volume answer → b ≡ ddsVolumeMake fields volume answer → a ≡ b
+volume-make-settled fields volume answer e f = same e f
+
+pub volume-read-settled : (volume fields answer : List ℕ) {a b : LentOutcome}
+    → a ≡ ddsVolumeRead volume fields answer → b ≡ ddsVolumeRead volume fields answer → a ≡ b
+volume-read-settled volume fields answer e f = same e f
+
+pub alert-make-settled : (high low : ℕ) (alert answer : List ℕ) {a b : LentOutcome}
+    → a ≡ ddsAlertMake high low alert answer → b ≡ ddsAlertMake high low alert answer → a ≡ b
+alert-make-settled high low alert answer e f = same e f
+
+pub alert-read-settled : (alert answer : List ℕ) {a b : LentOutcome} → a ≡ ddsAlertRead alert answer → b ≡ ddsAlertRead alert answer → a ≡ b
+alert-read-settled alert answer e f = same e f
+
+pub radio-find-settled : (received answer : List ℕ) {a b : LentOutcome} → a ≡ ddsRadioFind received answer → b ≡ ddsRadioFind received answer → a ≡ b
+radio-find-settled received answer e f = same e f

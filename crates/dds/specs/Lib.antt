@@ -3,3 +3,4 @@ pub mod Slices
 pub mod Calls
 pub mod Tracks
 pub mod Third
+pub mod Loader
