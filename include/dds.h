@@ -1,6 +1,7 @@
-/* dds.h: writing and reading the Basic Groups and the Sub Data Blocks of DDS tapes, and their third code, called from C.
+/* dds.h: writing and reading the Basic Groups and the Sub Data Blocks of DDS tapes, their third code, and an AIT loader's
+   memory, called from C.
 
-   Thirteen calls on plain numbers and lent byte slices. A slice is a pointer and a length in bytes. Every number inside a
+   Eighteen calls on plain numbers and lent byte slices. A slice is a pointer and a length in bytes. Every number inside a
    slice is four bytes, most significant first. Each call returns the refusal number, DDS_ACCEPTED if it was accepted.
    The library keeps nothing between calls, allocates nothing and calls nothing but memset and memcpy.
 
@@ -50,6 +51,10 @@ extern "C" {
 #define DDS_THIRD_ROWS       46u       /* rows of the third code; the buffer is 46 * row_len bytes, row i from i * row_len on */
 #define DDS_THIRD_DATA_ROWS  44u       /* rows 0 to 43 are data, rows 44 and 45 check bytes */
 
+#define DDS_VOLUME_LEN 72u             /* Volume Information of an AIT cartridge */
+#define DDS_FIELDS_LEN 37u             /* its fields, all of it that is not reserved */
+#define DDS_ALERT_LEN  8u              /* Tape Alert flags 1 to 64 */
+
 /* ---- Fields of a state. The first four are the reader's; a writer has all eight. */
 
 #define DDS_STATE_SIZE    0u           /* group size L */
@@ -74,9 +79,21 @@ extern "C" {
 #define DDS_ANSWER_ENTRIES 16u         /* at a close: its entry count, an owed total and the skip counted */
 #define DDS_ANSWER_TAKEN   20u         /* at a close: how many of the offered data bytes were taken */
 
+/* what an accepted call on the flags, and an accepted search, answer from byte 8 on */
+#define DDS_ANSWER_RAISED    8u        /* flags: how many are raised */
+#define DDS_ANSWER_LOWEST    12u       /* flags: the lowest raised, 0 for none */
+#define DDS_ANSWER_HIGH      16u       /* flags: 1 to 32, flag 1 in the top bit */
+#define DDS_ANSWER_LOW       20u       /* flags: 33 to 64, flag 33 in the top bit */
+#define DDS_ANSWER_PATTERN   12u       /* search: the place of the pattern's first byte, from 0 */
+#define DDS_ANSWER_LENGTH_AT 16u       /* search: the place of the length byte */
+
 #define DDS_OUTCOME_FINISHED 0u        /* the work is done and no group was closed; number, entries and taken are 0 */
 #define DDS_OUTCOME_CLOSED   1u        /* a group was closed */
 #define DDS_OUTCOME_BROKEN   1u        /* dds_third_check: some column breaks a rule; 0 where every one keeps both */
+#define DDS_OUTCOME_TYPE_A   0u        /* Volume Information: thickness 00 */
+#define DDS_OUTCOME_TYPE_B   1u        /* Volume Information: thickness 01 */
+#define DDS_OUTCOME_NONE     0u        /* search: no message begins in the bytes; both places are 0 */
+#define DDS_OUTCOME_FOUND    1u        /* search: found */
 
 /* ---- Fields of a row */
 
@@ -114,6 +131,16 @@ extern "C" {
 #define DDS_LOG_FIRST 71u              /* frames of the System Area's log */
 #define DDS_LOG_LAST  95u
 
+/* ---- Volume Information: the fields, in their order. In the 72 bytes they stand from byte 3 on, between reserved zeros. */
+
+#define DDS_FIELD_LAST_READ      0u    /* last read partition */
+#define DDS_FIELD_LAST_UPDATED   1u    /* last updated partition */
+#define DDS_FIELD_THICKNESS      2u    /* bits 8 and 7: 00 Type A, 01 Type B; bits 6 to 1: length number */
+#define DDS_FIELD_FLAGS          3u    /* bits 8 to 6 zero, bit 5 one, bits 4 to 1 as found */
+#define DDS_FIELD_LAST_PARTITION 4u    /* last partition */
+#define DDS_FIELD_DEVICE_MAP     5u    /* device area map, 32 bytes */
+#define DDS_VOLUME_FIELDS        3u    /* where the fields begin in the volume */
+
 /* ---- Refusals, with the calls that give them */
 
 #define DDS_ACCEPTED               0u
@@ -144,6 +171,10 @@ extern "C" {
 #define DDS_REFUSED_ROW           41u  /* a row above 45: restore */
 #define DDS_REFUSED_SAME_ROW      42u  /* the same row twice: restore of two rows */
 #define DDS_REFUSED_HOPELESS      43u  /* a column that no single change mends: mend, at the first such column */
+#define DDS_REFUSED_AIT_LENGTH    60u  /* a slice's length is not its own, or received bytes above 2^32 - 1: the AIT calls */
+#define DDS_REFUSED_RESERVED      61u  /* a reserved byte is not zero: read of a volume */
+#define DDS_REFUSED_THICKNESS     62u  /* thickness 10 or 11: make, read of a volume */
+#define DDS_REFUSED_FLAGS         63u  /* bit 5 clear, or one of bits 6 to 8 set: make, read of a volume */
 
 /* ---- Starting
 
@@ -244,6 +275,29 @@ uint32_t dds_third_restore_two(uint32_t row_len, uint32_t first, uint32_t second
    column was changed. Every column is judged before a byte is written.
    Refusals in order: 1 by the answer's length, 40, 43. */
 uint32_t dds_third_mend(uint32_t row_len, uint8_t *rows, size_t rows_len, uint8_t *answer, size_t answer_len);
+
+/* ---- An AIT loader's memory
+
+   Volume Information: made from its fields and read to them. The answer's outcome is the tape's type. Length number, partitions,
+   map and flags 1 to 4 are carried and not looked at.
+   Refusals in order: 1 by the answer's length, 60, 61 (read), 62, 63. */
+uint32_t dds_volume_make(const uint8_t *fields, size_t fields_len, uint8_t *volume, size_t volume_len, uint8_t *answer,
+                         size_t answer_len);
+
+uint32_t dds_volume_read(const uint8_t *volume, size_t volume_len, uint8_t *fields, size_t fields_len, uint8_t *answer,
+                         size_t answer_len);
+
+/* Tape Alert flags: `high` holds flags 1 to 32 and `low` flags 33 to 64, flags 1 and 33 in the top bit. Flag 1 is the top bit of
+   byte 0, flag 64 the lowest of byte 7. Both calls answer how many are raised, the lowest raised, and the two numbers.
+   Refusals in order: 1 by the answer's length, 60. */
+uint32_t dds_alert_make(uint32_t high, uint32_t low, uint8_t *alert, size_t alert_len, uint8_t *answer, size_t answer_len);
+
+uint32_t dds_alert_read(const uint8_t *alert, size_t alert_len, uint8_t *answer, size_t answer_len);
+
+/* The first place where the pattern 00 B2 4D follows at least two zero bytes and a length byte follows it. Bytes of any length up
+   to 2^32 - 1 are taken; finding nothing is no refusal.
+   Refusals in order: 1 by the answer's length, 60. */
+uint32_t dds_radio_find(const uint8_t *received, size_t received_len, uint8_t *answer, size_t answer_len);
 
 #ifdef __cplusplus
 }

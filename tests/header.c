@@ -32,6 +32,13 @@ static const struct { const char *name; uint32_t found, wanted; } constants[] = 
     IS(DDS_THIRD_ROWS, 46) IS(DDS_THIRD_DATA_ROWS, 44) IS(DDS_OUTCOME_BROKEN, 1)
     IS(DDS_REFUSED_ROW_LENGTH, 40) IS(DDS_REFUSED_ROW, 41) IS(DDS_REFUSED_SAME_ROW, 42) IS(DDS_REFUSED_HOPELESS, 43)
     IS(DDS_REFUSED_LENGTH, 30) IS(DDS_REFUSED_PARITY, 31) IS(DDS_REFUSED_SW1, 32) IS(DDS_REFUSED_SW2, 33) IS(DDS_REFUSED_CLOSE, 34)
+    IS(DDS_VOLUME_LEN, 72) IS(DDS_FIELDS_LEN, 37) IS(DDS_ALERT_LEN, 8) IS(DDS_VOLUME_FIELDS, 3)
+    IS(DDS_ANSWER_RAISED, 8) IS(DDS_ANSWER_LOWEST, 12) IS(DDS_ANSWER_HIGH, 16) IS(DDS_ANSWER_LOW, 20)
+    IS(DDS_ANSWER_PATTERN, 12) IS(DDS_ANSWER_LENGTH_AT, 16)
+    IS(DDS_OUTCOME_TYPE_A, 0) IS(DDS_OUTCOME_TYPE_B, 1) IS(DDS_OUTCOME_NONE, 0) IS(DDS_OUTCOME_FOUND, 1)
+    IS(DDS_FIELD_LAST_READ, 0) IS(DDS_FIELD_LAST_UPDATED, 1) IS(DDS_FIELD_THICKNESS, 2) IS(DDS_FIELD_FLAGS, 3)
+    IS(DDS_FIELD_LAST_PARTITION, 4) IS(DDS_FIELD_DEVICE_MAP, 5)
+    IS(DDS_REFUSED_AIT_LENGTH, 60) IS(DDS_REFUSED_RESERVED, 61) IS(DDS_REFUSED_THICKNESS, 62) IS(DDS_REFUSED_FLAGS, 63)
 };
 
 int main(void)
@@ -57,6 +64,11 @@ int main(void)
     failures += dds_third_restore_one(1, 0, none, 0, none, 0) != 1;
     failures += dds_third_restore_two(1, 0, 1, none, 0, none, 0) != 1;
     failures += dds_third_mend(1, none, 0, none, 0) != 1;
-    printf("header: %u checks, %d failed\n", (unsigned)n + 13, failures);
+    failures += dds_volume_make(none, 0, none, 0, none, 0) != 1;
+    failures += dds_volume_read(none, 0, none, 0, none, 0) != 1;
+    failures += dds_alert_make(0, 0, none, 0, none, 0) != 1;
+    failures += dds_alert_read(none, 0, none, 0) != 1;
+    failures += dds_radio_find(none, 0, none, 0) != 1;
+    printf("header: %u checks, %d failed\n", (unsigned)n + 18, failures);
     return failures != 0;
 }
