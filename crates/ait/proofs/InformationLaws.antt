@@ -10,18 +10,14 @@ use lib.Dec.{T, eqb}
 use lib.Bits.{bitAnd}
 use lib.ListN.{length, getD, take, drop, replicate, length-append, length-drop, length-replicate, take-append-drop}
 use lib.Seq.{take-all, drop-length, length-take-le, take-at, drop-at, drop-drop, getD-take, getD-drop}
-use Rattle.group.specs.Store.{put}
-use Rattle.group.proofs.Stores.{put-split, put-put}
+use Rattle.group.specs.Store.{put, zeros}
+use Rattle.group.proofs.Stores.{put-split, put-put, take-rest, zeros-are}
 use Rattle.group.proofs.Computed.{below}
 use Rattle.group.proofs.Tests.{both, passed}
 use Rattle.ait.specs.declared.VolumeAnswer.{VolumeAnswer}
 use Rattle.ait.specs.declared.VolumeAnswer.the-variants.{TypeA, TypeB, Refused}
-use Rattle.ait.specs.Information.{volumeLength, fieldsLength, lengthAndThickness, flags, volumeOf, fieldsOf, zeros, lengthsKept, reservedKept, thickness, flagsKept}
+use Rattle.ait.specs.Information.{volumeLength, fieldsLength, lengthAndThickness, flags, volumeOf, fieldsOf, lengthsKept, reservedKept, thickness, flagsKept}
 use Rattle.ait.specs.Information.{byteRefusal, makeRefusal, readRefusal, typeOf, answerOf, left, refusalOf}
-
--- All that follows the first n.
-take-rest : (n : ℕ) (l : List ℕ) → take (length l - n) (drop n l) ≡ drop n l
-take-rest n l = take-all (length l - n) (drop n l) (omega (arith, length-drop n l))
 
 -- A store over a whole slice.
 pub put-whole : (old new : List ℕ) → length new ≡ length old → put old 0 new ≡ new
@@ -213,13 +209,7 @@ module _ (fields : List ℕ) (long : length fields ≡ 37) where
   unfolding volumeOf
   length-volume = simp (length-append, length-replicate) (omega arith)
 
--- Bytes that are all zero, and a volume between them.
-all-zeros : (bytes : List ℕ) → zeros bytes ≡ true → bytes ≡ replicate (length bytes) 0
-all-zeros [] e = refl
-all-zeros (byte ∷ bytes) e =
-    let h = both (eqb byte 0) (zeros bytes) e in
-    rw (eqb-true byte 0 (h .0), ← all-zeros bytes (h .1))
-
+-- A volume between zeros.
 module _ (volume : List ℕ) (long : length volume ≡ 72) where
   pub length-fields : length (fieldsOf volume) ≡ 37
   unfolding fieldsOf
@@ -230,8 +220,8 @@ module _ (volume : List ℕ) (long : length volume ≡ 72) where
   volume-again before behind =
       let three : length (take 3 volume) ≡ 3 = length-take-le 3 volume (omega arith) in
       let rest : length (drop 40 volume) ≡ 32 = omega (arith, length-drop 40 volume) in
-      let first : replicate 3 0 ≡ take 3 volume = sym (all-zeros (take 3 volume) before ∙ ap (λ (n : ℕ). replicate n 0) three) in
-      let last : replicate 32 0 ≡ drop 37 (drop 3 volume) = sym (all-zeros (drop 40 volume) behind ∙ ap (λ (n : ℕ). replicate n 0) rest) ∙ sym (drop-drop 37 3 volume) in
+      let first : replicate 3 0 ≡ take 3 volume = ap (λ (n : ℕ). replicate n 0) (sym three) ∙ zeros-are (take 3 volume) before in
+      let last : replicate 32 0 ≡ drop 37 (drop 3 volume) = ap (λ (n : ℕ). replicate n 0) (sym rest) ∙ zeros-are (drop 40 volume) behind ∙ sym (drop-drop 37 3 volume) in
       ap (λ (l : List ℕ). l ++ (take 37 (drop 3 volume) ++ replicate 32 0)) first
       ∙ ap (λ (l : List ℕ). take 3 volume ++ (take 37 (drop 3 volume) ++ l)) last
       ∙ ap (λ (l : List ℕ). take 3 volume ++ l) (take-append-drop 37 (drop 3 volume))

@@ -6,6 +6,7 @@ use mathlib.Core.List.{List, [], _∷_, _++_}
 use mathlib.Core.Bool.{Bool, true, cond, not, _&&_}
 use lib.Dec.{eqb, leb}
 use lib.ListN.{length, getD, take, drop, replicate}
+use Rattle.group.specs.Store.{zeros}
 use Rattle.ait.specs.declared.VolumeAnswer.{VolumeAnswer}
 use Rattle.ait.specs.declared.VolumeAnswer.the-variants.{TypeA, TypeB, Refused}
 
@@ -39,11 +40,6 @@ volumeOf fields = replicate reservedBefore 0 ++ fields ++ replicate reservedBehi
 -- What reading gives back: what stands between the reserved fields.
 unfoldable pub fieldsOf : List ℕ → List ℕ
 fieldsOf volume = take fieldsLength (drop reservedBefore volume)
-
--- Each byte is zero.
-abbrev pub zeros : List ℕ → Bool
-zeros [] = true
-zeros (byte ∷ bytes) = eqb byte 0 && zeros bytes
 
 -- 60: both slices are of their lengths.
 abbrev pub lengthsKept : ℕ → ℕ → Bool

@@ -1,23 +1,9 @@
 // Volume Information: what making and reading it refuse, its bytes from its fields and its fields from its bytes.
 ghost use mathlib.Core.Path.{_≡_};
 ghost use lib.ListN.{length};
-ghost use Rattle.ait.specs.Information.{volumeLength, fieldsLength, volumeOf, fieldsOf, typeOf, zeros, thickness, flagsKept, byteRefusal, makeRefusal, readRefusal};
+ghost use Rattle.ait.specs.Information.{volumeLength, fieldsLength, volumeOf, fieldsOf, typeOf, thickness, flagsKept, byteRefusal, makeRefusal, readRefusal};
 use crate::Volume;
 use crate::VolumeAnswer;
-
-// Whether each byte is zero.
-fn are_zeros(bytes: &[u8]) -> bool
-    ensures { λ r. ⌜ r ≡ zeros (now (bytes .entry)) ⌝ }
-{
-    let mut i: usize = 0;
-    while i < bytes.len() {
-        if bytes[i] != 0 {
-            return false;
-        }
-        i += 1;
-    }
-    true
-}
 
 // The thickness number: the two top bits of the byte, whose others are the length number.
 fn thickness_of(byte: u8) -> u8
@@ -69,10 +55,10 @@ pub(crate) fn read_refusal(volume: &[u8], fields: usize) -> u32
     if volume.len() != Volume::LENGTH {
         return 60;
     }
-    if !are_zeros(&volume[..Volume::FIELDS_BEGIN]) {
+    if !group::bytes::are_zeros(&volume[..Volume::FIELDS_BEGIN]) {
         return 61;
     }
-    if !are_zeros(&volume[Volume::FIELDS_END..]) {
+    if !group::bytes::are_zeros(&volume[Volume::FIELDS_END..]) {
         return 61;
     }
     byte_refusal(volume[5], volume[6])
