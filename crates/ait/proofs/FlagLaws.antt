@@ -18,10 +18,9 @@ use lib.Seq.{take-all}
 use Rattle.group.specs.Numbers.{numberAt, bytesOf, Bytes}
 use Rattle.group.proofs.NumberLaws.{length-bytes, number-from, number-of-bytes, bytes-of-number}
 use Rattle.group.specs.Store.{put}
-use Rattle.group.proofs.Stores.{put-put}
+use Rattle.group.proofs.Stores.{put-put, put-whole}
 use Rattle.ait.specs.declared.AlertAnswer.{AlertAnswer}
 use Rattle.ait.specs.declared.AlertAnswer.the-variants.{Refused}
-use Rattle.ait.proofs.InformationLaws.{put-whole}
 use Rattle.ait.specs.Flags.{MakesAlert, makeAlertCall, readAlertCall, countedIn, Says, raised, raisedFrom, countFrom, lowestFrom, raisedCount, lowestRaised, alertOf}
 
 -- All 64 flags as one number.

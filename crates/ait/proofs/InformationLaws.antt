@@ -2,29 +2,22 @@
 -- Assumes nothing.
 use mathlib.Core.Path.{_≡_, refl, sym, ap, _∙_}
 use mathlib.Core.Bool.{Bool, true, false, cond, not}
-use mathlib.Core.List.{List, [], _∷_, _++_, append-nil}
+use mathlib.Core.List.{List, _++_}
 use Prim.Native.Nat.{ℕ, _+_, _-_, _≤_, _<_}
 use native.Mathlib.Omega.{arith}
 use borrow.Author.Tests.{eq-eqb, ne-eqb, eqb-true, le-leb, lt-leb, not-false}
 use lib.Dec.{T, eqb}
 use lib.Bits.{bitAnd}
 use lib.ListN.{length, getD, take, drop, replicate, length-append, length-drop, length-replicate, take-append-drop}
-use lib.Seq.{take-all, drop-length, length-take-le, take-at, drop-at, drop-drop, getD-take, getD-drop}
+use lib.Seq.{length-take-le, take-at, drop-at, drop-drop, getD-take, getD-drop}
 use Rattle.group.specs.Store.{put, zeros}
-use Rattle.group.proofs.Stores.{put-split, put-put, take-rest, zeros-are}
+use Rattle.group.proofs.Stores.{put-put, put-whole, take-rest, zeros-are}
 use Rattle.group.proofs.Computed.{below}
 use Rattle.group.proofs.Tests.{both, passed}
 use Rattle.ait.specs.declared.VolumeAnswer.{VolumeAnswer}
 use Rattle.ait.specs.declared.VolumeAnswer.the-variants.{TypeA, TypeB, Refused}
 use Rattle.ait.specs.Information.{volumeLength, fieldsLength, lengthAndThickness, flags, volumeOf, fieldsOf, lengthsKept, reservedKept, thickness, flagsKept}
 use Rattle.ait.specs.Information.{byteRefusal, makeRefusal, readRefusal, typeOf, answerOf, left, refusalOf}
-
--- A store over a whole slice.
-pub put-whole : (old new : List ℕ) → length new ≡ length old → put old 0 new ≡ new
-put-whole old new e =
-    let all : 0 + length new ≡ length old = omega arith in
-    let none : drop (0 + length new) old ≡ [] = ap (λ (n : ℕ). drop n old) all ∙ drop-length old in
-    put-split old 0 new (omega arith) ∙ ap (λ (l : List ℕ). new ++ l) none ∙ append-nil new
 
 -- The volume, stored in three pieces.
 module _ (fields old v₁ v₂ v₃ : List ℕ) (long : length old ≡ 72) (wide : length fields ≡ 37) where
