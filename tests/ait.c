@@ -3,9 +3,7 @@
    after; expected bytes are worked out from change request 2026-11 and source document 001. */
 
 #define _DEFAULT_SOURCE
-#include <sys/mman.h>
-#include <unistd.h>
-
+#include "fence.h"
 #include "guard.h"
 
 /* ---- A desk: what is lent to one call, and what it returned. A call's first slice is `in`, which no call writes but the making of
@@ -307,21 +305,6 @@ static void slice_lengths(void)
                     clear(&d);
                 }
         }
-}
-
-/* `len` bytes that end, or begin, at a page that may not be touched */
-static uint8_t *fenced(size_t len, int at_end)
-{
-    size_t page = (size_t)sysconf(_SC_PAGESIZE), inner = (len + page - 1) / page * page;
-    uint8_t *p = mmap(0, inner + 2 * page, PROT_NONE, MAP_PRIVATE | MAP_ANONYMOUS, -1, 0);
-    if (p == MAP_FAILED || mprotect(p + page, inner, PROT_READ | PROT_WRITE)) { fprintf(stderr, "no memory\n"); exit(2); }
-    return at_end ? p + page + inner - len : p + page;
-}
-
-static void read_only(uint8_t *at)
-{
-    size_t page = (size_t)sysconf(_SC_PAGESIZE);
-    mprotect((void *)((uintptr_t)at / page * page), page, PROT_READ);
 }
 
 /* no byte outside a slice is read or written, and const slices are not written */
