@@ -4,10 +4,10 @@
 use mathlib.Core.Path.{_≡_, sym, _∙_}
 use mathlib.Core.List.{List}
 use Prim.Native.Nat.{ℕ}
-use Rattle.dds.specs.Calls.{Outcome, ddsReaderStart, ddsRead, ddsWriterStart, ddsRecord, ddsSeparator, ddsEnd}
-use Rattle.dds.specs.Tracks.{MakeOutcome, ReadOutcome, ddsSubdataMake, ddsSubdataRead}
-use Rattle.dds.specs.Third.{ThirdOutcome, CheckOutcome, ddsThirdMake, ddsThirdCheck, ddsThirdRestoreOne, ddsThirdRestoreTwo, ddsThirdMend}
-use Rattle.dds.specs.Loader.{LentOutcome, ddsVolumeMake, ddsVolumeRead, ddsAlertMake, ddsAlertRead, ddsRadioFind}
+use Rattle.c_reader.specs.Calls.{Outcome, ddsReaderStart, ddsRead, ddsWriterStart, ddsRecord, ddsSeparator, ddsEnd}
+use Rattle.c_track.specs.Tracks.{MakeOutcome, ReadOutcome, ddsSubdataMake, ddsSubdataRead}
+use Rattle.c_third.specs.Third.{ThirdOutcome, CheckOutcome, ddsThirdMake, ddsThirdCheck, ddsThirdRestoreOne, ddsThirdRestoreTwo, ddsThirdMend}
+use Rattle.c_loader.specs.Loader.{LentOutcome, ddsVolumeMake, ddsVolumeRead, ddsAlertMake, ddsAlertRead, ddsRadioFind}
 
 same : {A : Type 0} {x a b : A} → a ≡ x → b ≡ x → a ≡ b
 same e f = e ∙ sym f

@@ -9,12 +9,12 @@ use lib.ListN.{length, length-append, getD, take, drop}
 use lib.Seq.{getD-append-seam, take-add, drop-cons, length-take-le}
 use native.Mathlib.Numerals.{add-one}
 use Rattle.group.specs.declared.Entry.{Entry}
-use Rattle.group.specs.Store.{put}
-use Rattle.group.specs.Numbers.{numberAt, bytesOf, Bytes}
+use Rattle.numbers.specs.Store.{put}
+use Rattle.numbers.specs.Numbers.{numberAt, bytesOf, Bytes}
 use Rattle.group.specs.Entries.{entry, entryAt, entryBytes, entriesBelow, tableBytes}
 use Rattle.group.specs.Coded.{Word}
-use Rattle.group.proofs.Stores.{put-split}
-use Rattle.group.proofs.NumberLaws.{length-bytes, count-at, three-bytes, four-bytes, number-after, number-from, number-of-bytes, bytes-of-number, number-small}
+use Rattle.numbers.proofs.Stores.{put-split}
+use Rattle.numbers.proofs.NumberLaws.{length-bytes, count-at, three-bytes, four-bytes, number-after, number-from, number-of-bytes, bytes-of-number, number-small}
 
 -- A count that three bytes hold, and a list of entries whose counts they hold.
 abbrev pub Small : List Entry → Type 0

@@ -10,13 +10,14 @@ use borrow.Author.Tests.{eqb-true}
 use lib.Bits.{bitAnd, bitOr}
 use lib.Dec.{T, eqb, eqb→eq}
 use lib.ListN.{getD}
+use Rattle.numbers.specs.Numbers.{listed}
 use Rattle.group.specs.declared.Kind.{Kind}
 use Rattle.group.specs.declared.Kind.the-variants.{Total, Separator, Middle, Start, Last, Entire, Skip}
 use Rattle.group.specs.declared.Meaning.{Meaning}
 use Rattle.group.specs.declared.Meaning.the-variants.{Known, Unknown}
 use Rattle.group.specs.Flags.{kinds, kindNumber, flagOf, meaningAmong, meaningOf, b4Of, withB4}
-use Rattle.group.specs.Coded.{codeOf, meaningBy, meaningOfCode, listed, flagTable, Below}
-use Rattle.group.proofs.Computed.{below, listed-at}
+use Rattle.group.specs.Coded.{codeOf, meaningBy, meaningOfCode, flagTable, Below}
+use Rattle.numbers.proofs.Computed.{below, listed-at}
 
 -- What holds of each kind with b4 clear and with b4 set, so that a law of the fourteen flags is one computation.
 pub record Fourteen (P : Kind → Bool → Type 0) : Type 0 where

@@ -9,7 +9,7 @@ use Rattle.group.specs.declared.Phase.{Phase}
 use Rattle.group.specs.declared.Phase.the-variants.{Free, Inside, Owed}
 use Rattle.group.specs.Sizes.{sizeKept, numberKept}
 use Rattle.group.specs.State.{nextKept, sumKept, runSound, startRefusal}
-use Rattle.group.proofs.Tests.{both, and, within, is-within, passed}
+use Rattle.numbers.proofs.Tests.{both, and, within, is-within, passed}
 
 -- What a sound run says of its numbers.
 pub record Run (size next : ℕ) (phase : Phase) (sum : ℕ) : Type 0 where

@@ -1,12 +1,13 @@
 -- Serves contracts and proofs, and says nothing of the format: a flag's meaning as one number, its code, the table of codes, and
 -- an entry as one number.
 -- Assumes nothing.
-use Prim.Native.Nat.{ℕ, zero, suc, _+_, _*_, _/_, _%_, _<_}
+use Prim.Native.Nat.{ℕ, _+_, _*_, _/_, _%_, _<_}
 use mathlib.Core.Path.{_≡_}
 use mathlib.Core.List.{List, [], _∷_, map}
 use mathlib.Core.Bool.{Bool, true, false}
 use lib.Dec.{eqb}
 use lib.ListN.{getD}
+use Rattle.numbers.specs.Numbers.{listed}
 use Rattle.group.specs.declared.Entry.{Entry}
 use Rattle.group.specs.declared.Kind.{Kind}
 use Rattle.group.specs.declared.Meaning.{Meaning}
@@ -25,11 +26,6 @@ meaningBy number warned = getD (Unknown ∷ map (λ (k : Kind). Known k warned) 
 
 unfoldable pub meaningOfCode : ℕ → Meaning
 meaningOfCode code = meaningBy (code / 2) (eqb (code % 2) 1)
-
--- f at each of n numbers from i.
-abbrev pub listed : {A : Type 0} → (ℕ → A) → ℕ → ℕ → List A
-listed f i zero = []
-listed f i (suc n) = f i ∷ listed f (suc i) n
 
 -- By a flag's high half and its low half: the code of what it means.
 unfoldable pub flagTable : List (List ℕ)

@@ -5,7 +5,7 @@ use mathlib.Core.List.{List, [], _∷_, _++_}
 use lib.ListN.{getD}
 use Rattle.group.specs.declared.Entry.{Entry}
 use Rattle.group.specs.Sizes.{entryLength}
-use Rattle.group.specs.Numbers.{numberAt, bytesOf}
+use Rattle.numbers.specs.Numbers.{numberAt, bytesOf}
 
 -- "An entry is a flag byte, then a count, most significant byte first."
 abbrev pub entry : ℕ → ℕ → Entry

@@ -1,7 +1,5 @@
 -- What a reader of this crate must believe, in document 01's order, and the one file that serves only proofs (Coded).
 pub mod Sizes
-pub mod Store
-pub mod Numbers
 pub mod Entries
 pub mod Flags
 pub mod State

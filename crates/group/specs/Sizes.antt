@@ -3,6 +3,7 @@
 use Prim.Native.Nat.{ℕ, _+_, _*_, _-_}
 use mathlib.Core.Bool.{Bool, _&&_}
 use lib.Dec.{leb}
+use Rattle.numbers.specs.Numbers.{between}
 
 -- "Rig groups may be smaller: L is 64 to 126,632."
 abbrev pub leastSize : ℕ
@@ -27,10 +28,6 @@ longestRecord = 16777215
 -- "Group numbers are 1 to 65,535."
 abbrev pub lastNumber : ℕ
 lastNumber = 65535
-
--- A number from low to high, both with it.
-abbrev pub between : ℕ → ℕ → ℕ → Bool
-between low n high = leb low n && leb n high
 
 -- "L is 64 to 126,632."
 abbrev pub sizeKept : ℕ → Bool

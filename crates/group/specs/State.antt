@@ -3,9 +3,10 @@
 use Prim.Native.Nat.{ℕ, _+_, _-_}
 use mathlib.Core.Bool.{Bool, cond, not, _&&_}
 use lib.Dec.{eqb}
+use Rattle.numbers.specs.Numbers.{between}
 use Rattle.group.specs.declared.Phase.{Phase}
 use Rattle.group.specs.declared.Phase.the-variants.{Free, Inside, Owed}
-use Rattle.group.specs.Sizes.{longestRecord, lastNumber, between, sizeKept, numberKept}
+use Rattle.group.specs.Sizes.{longestRecord, lastNumber, sizeKept, numberKept}
 
 -- "the next number (1 to 65,536)"
 abbrev pub nextKept : ℕ → Bool

@@ -5,7 +5,6 @@ ghost use Prim.Native.Nat.{_/_, _≤_, _<_};
 ghost use Rattle.group.specs.Flags.{kindNumber, flagOf, meaningOf, b4Of, withB4};
 ghost use Rattle.group.specs.Coded.{codeOf, flagTable, Below};
 use crate::Kind;
-use crate::Meaning;
 
 // By a flag's high half and its low half: the code of what it means, which is twice the kind's number, one more where b4 is
 // set, and 0 where no kind has the flag.
@@ -111,16 +110,4 @@ pub fn kind_of(code: u8) -> Kind
         6 => Kind::Entire,
         _ => Kind::Skip,
     }
-}
-
-// What a flag means.
-pub fn means_in(flags: &[[u8; 16]; 16], flag: u8) -> Meaning
-    requires { ⌜ now flags ≡ flagTable ⌝ }
-    ensures { λ r. ⌜ r ≡ meaningOf flag ⌝ }
-{
-    let code = code_in(flags, flag);
-    if code < 2 {
-        return Meaning::Unknown;
-    }
-    Meaning::Known(kind_of(code), code % 2 == 1)
 }

@@ -1,8 +1,7 @@
-// The format of a Basic Group: its sizes, the kinds of entry and their flags, numbers as bytes. Document 01, "Sizes" and
+// The format of a Basic Group: its sizes, the kinds of entry and their flags, entries as bytes. Document 01, "Sizes" and
 // "The group". The leaves here have a `requires` where they index; the calls that firmware reaches are made of them above.
-pub mod bytes;
+pub mod entries;
 pub mod flags;
-pub mod numbers;
 pub mod state;
 
 // A Basic Group: the standard's size and the limits of the format.

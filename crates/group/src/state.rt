@@ -1,27 +1,17 @@
 // The rules that a reader's and a writer's state share, and what a start refuses.
 ghost use mathlib.Core.Path.{_≡_};
-ghost use Rattle.group.specs.Sizes.{between, entriesKept};
+ghost use Rattle.group.specs.Sizes.{entriesKept};
 ghost use Rattle.group.specs.State.{sumKept, runSound, startRefusal};
 use crate::Group;
 use crate::Phase;
-
-// A number from low to high, both with it.
-pub fn is_between(low: u32, n: u32, high: u32) -> bool
-    ensures { λ r. ⌜ r ≡ between low n high ⌝ }
-{
-    if n < low {
-        return false;
-    }
-    n <= high
-}
 
 fn sum_kept(phase: Phase, sum: u32) -> bool
     ensures { λ r. ⌜ r ≡ sumKept phase sum ⌝ }
 {
     match phase {
         Phase::Free => sum == 0,
-        Phase::Inside => is_between(1, sum, Group::LONGEST_RECORD - 1),
-        Phase::Owed => is_between(2, sum, Group::LONGEST_RECORD),
+        Phase::Inside => numbers::is_between(1, sum, Group::LONGEST_RECORD - 1),
+        Phase::Owed => numbers::is_between(2, sum, Group::LONGEST_RECORD),
     }
 }
 
@@ -29,10 +19,10 @@ fn sum_kept(phase: Phase, sum: u32) -> bool
 pub fn run_sound(size: u32, next: u32, phase: Phase, sum: u32) -> bool
     ensures { λ r. ⌜ r ≡ runSound size next phase sum ⌝ }
 {
-    if !is_between(Group::LEAST_SIZE, size, Group::STANDARD_SIZE) {
+    if !numbers::is_between(Group::LEAST_SIZE, size, Group::STANDARD_SIZE) {
         return false;
     }
-    if !is_between(1, next, Group::LAST_NUMBER + 1) {
+    if !numbers::is_between(1, next, Group::LAST_NUMBER + 1) {
         return false;
     }
     sum_kept(phase, sum)
@@ -42,10 +32,10 @@ pub fn run_sound(size: u32, next: u32, phase: Phase, sum: u32) -> bool
 pub fn start_refusal(size: u32, first: u32) -> u32
     ensures { λ r. ⌜ r ≡ startRefusal size first ⌝ }
 {
-    if !is_between(Group::LEAST_SIZE, size, Group::STANDARD_SIZE) {
+    if !numbers::is_between(Group::LEAST_SIZE, size, Group::STANDARD_SIZE) {
         return 2;
     }
-    if !is_between(1, first, Group::LAST_NUMBER) {
+    if !numbers::is_between(1, first, Group::LAST_NUMBER) {
         return 3;
     }
     0

@@ -13,19 +13,19 @@ use Rattle.group.specs.declared.Kind.the-variants as kind
 use Rattle.group.specs.declared.Phase.{Phase}
 use Rattle.group.specs.declared.Phase.the-variants as phase
 use Rattle.group.specs.Sizes.{leastSize, standardSize, informationLength, longestRecord, lastNumber}
-use Rattle.group.proofs.Tests.{within}
-use Rattle.reader.specs.declared.Stand.{Stand}
-use Rattle.reader.specs.declared.Stand.the-variants as stand
-use Rattle.reader.specs.Rules.{mayFollow, standAt, phaseAfter}
-use Rattle.writer.specs.declared.Writer.{Writer}
-use Rattle.writer.specs.declared.WriteAnswer.{WriteAnswer}
-use Rattle.writer.specs.declared.WriteAnswer.the-variants.{Finished, Closed, Refused}
-use Rattle.writer.specs.State.{isInside, endsEmpty}
-use Rattle.writer.specs.Room.{middleLength}
-use Rattle.writer.specs.Laying.{Desk, desk, layEntry, layData, layPart, moved, laySkip, zeroGap, shut, warnState, payOwed, ready}
-use Rattle.writer.specs.Calls.{Call, Done, call, finished, closed, orRefused, recordAccepted, recordCall, separatorAccepted, separatorCall, endCall}
-use Rattle.writer.specs.Calls.Call.{aRecord, aSeparator, anEnd}
-use Rattle.writer.specs.Bounds.{span}
+use Rattle.numbers.proofs.Tests.{within}
+use Rattle.entry.specs.declared.Stand.{Stand}
+use Rattle.entry.specs.declared.Stand.the-variants as stand
+use Rattle.entry.specs.Rules.{mayFollow, standAt, phaseAfter}
+use Rattle.laying.specs.declared.Writer.{Writer}
+use Rattle.laying.specs.declared.WriteAnswer.{WriteAnswer}
+use Rattle.laying.specs.declared.WriteAnswer.the-variants.{Finished, Closed, Refused}
+use Rattle.laying.specs.State.{isInside, endsEmpty}
+use Rattle.laying.specs.Room.{middleLength}
+use Rattle.laying.specs.Laying.{Desk, desk, layEntry, layData, layPart, moved, laySkip, zeroGap, shut, warnState, payOwed, ready}
+use Rattle.laying.specs.Calls.{Call, Done, call, finished, closed, orRefused, recordAccepted, recordCall, separatorAccepted, separatorCall, endCall}
+use Rattle.laying.specs.Calls.Call.{aRecord, aSeparator, anEnd}
+use Rattle.laying.specs.Bounds.{span}
 use Rattle.writer.proofs.SoundLaws.{Sound}
 use Rattle.writer.proofs.Accepted.{Offered, Separated, Ended, record-accepted, separator-accepted, end-accepted}
 use Rattle.writer.proofs.CallLaws.{RecordedFree, entire, start, nothing, recorded-free, RecordedInside, part, total, owed, recorded-inside, SeparatorLaid, laid, not-laid, separator-laid, EndLaid, ends-nothing, ends-group, end-laid}

@@ -2,18 +2,18 @@
 -- Assumes nothing.
 use mathlib.Core.Path.{_≡_, refl}
 use mathlib.Core.List.{map}
-use Rattle.group.specs.Store.{put}
-use Rattle.group.specs.Numbers.{numberAt, bytesOf}
+use Rattle.numbers.specs.Store.{put}
+use Rattle.numbers.specs.Numbers.{numberAt, bytesOf}
 use Rattle.group.specs.Entries.{entryAt, entryBytes, entriesBelow}
 use Rattle.group.specs.Flags.{meaningOf}
 use Rattle.group.specs.State.{runSound, startRefusal}
-use Rattle.reader.specs.Rules.{mayFollow, entryFault}
-use Rattle.reader.specs.Scan.{scan, rowsFrom}
+use Rattle.entry.specs.Rules.{mayFollow, entryFault}
+use Rattle.entry.specs.Scan.{scan, rowsFrom}
 use Rattle.reader.specs.Answer.{readerStartCall, readRefusal, groupScan, readCall, groupRows}
-use Rattle.writer.specs.State.{roomKept, emptyKept, restKept, dataKept, clearKept, spentKept, writerSound, recordRefusal, separatorRefusal, endRefusal}
-use Rattle.writer.specs.Room.{room, fitOf}
-use Rattle.writer.specs.Laying.{layEntry, layData, layPart, moved, laySkip, zeroGap, shut, warnState, payOwed, ready}
-use Rattle.writer.specs.Calls.{finished, closed, orRefused, writerStartCall, byFit, recordFree, middle, last, recordInside, recordAccepted, recordCall, separatorAccepted, separatorCall, endAccepted, endCall, call, told}
+use Rattle.laying.specs.State.{roomKept, emptyKept, restKept, dataKept, clearKept, spentKept, writerSound, recordRefusal, separatorRefusal, endRefusal}
+use Rattle.laying.specs.Room.{room, fitOf}
+use Rattle.laying.specs.Laying.{layEntry, layData, layPart, moved, laySkip, zeroGap, shut, warnState, payOwed, ready}
+use Rattle.laying.specs.Calls.{finished, closed, orRefused, writerStartCall, byFit, recordFree, middle, last, recordInside, recordAccepted, recordCall, separatorAccepted, separatorCall, endAccepted, endCall, call, told}
 use Rattle.layout.specs.BenchTable.{Case, shown, shownFrom, answerTo, readAll, readTo, deskAfter, closedBy, next, toldAll, closedAll, deskLeft, from, benchTable}
 
 -- All that must open for a case to be computed.

@@ -12,12 +12,12 @@ use lib.Seq.{take-append-seam, drop-append-seam, drop-append-add, length-take-le
 use Rattle.group.specs.declared.Kind.the-variants.{Skip}
 use Rattle.group.specs.declared.Entry.{Entry}
 use Rattle.group.specs.Sizes.{informationLength, entryOffset}
-use Rattle.group.specs.Store.{put}
+use Rattle.numbers.specs.Store.{put}
 use Rattle.group.specs.Flags.{flagOf}
 use Rattle.group.specs.Entries.{entry, entryBytes, tableBytes}
-use Rattle.group.proofs.Stores.{put-split}
+use Rattle.numbers.proofs.Stores.{put-split}
 use Rattle.group.proofs.EntryLaws.{length-entry, length-table}
-use Rattle.writer.specs.Bounds.{span}
+use Rattle.laying.specs.Bounds.{span}
 use Rattle.layout.specs.Items.{Piece}
 use Rattle.layout.specs.Layout.{kindOf, countOf, dataOf, userData, entriesOf, b4After, plainLeft, Image, Pictures}
 use Rattle.layout.specs.Writing.{imageOf}

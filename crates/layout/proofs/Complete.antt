@@ -15,13 +15,13 @@ use Rattle.group.specs.declared.Entry.{Entry}
 use Rattle.group.specs.Entries.{entriesBelow}
 use Rattle.group.specs.Sizes.{informationLength, longestRecord, lastNumber, sizeKept, numberKept, entryOffset}
 use Rattle.group.specs.State.{sumKept, startRefusal}
-use Rattle.group.proofs.Tests.{within, is-within}
+use Rattle.numbers.proofs.Tests.{within, is-within}
 use Rattle.reader.specs.declared.Reader.{Reader}
-use Rattle.reader.specs.declared.Stand.{Stand}
-use Rattle.reader.specs.declared.Stand.the-variants.{Free, Inside, Owed}
+use Rattle.entry.specs.declared.Stand.{Stand}
+use Rattle.entry.specs.declared.Stand.the-variants.{Free, Inside, Owed}
 use Rattle.reader.specs.declared.ReaderStart.the-variants as start
 use Rattle.reader.specs.declared.ReadAnswer.the-variants as answer
-use Rattle.reader.specs.Rules.{standAt}
+use Rattle.entry.specs.Rules.{standAt}
 use Rattle.reader.specs.Answer.{fresh, readerStartCall, opening, closing, groupScan, readCall}
 use Rattle.reader.proofs.Accepted.{Ready, accepts}
 use Rattle.layout.specs.Items.{Item, Tail, Piece, Token, Each, grouped, joined, soFar, wholeOf, SoundTail}

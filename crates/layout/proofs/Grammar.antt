@@ -11,10 +11,10 @@ use lib.Dec.{leb, eqb}
 use borrow.Author.Tests.{leb-true, le-leb, eqb-true, eq-eqb}
 use Rattle.group.specs.declared.Kind.the-variants.{Total, Separator, Skip}
 use Rattle.group.specs.Sizes.{longestRecord}
-use Rattle.reader.specs.declared.Stand.{Stand}
-use Rattle.reader.specs.declared.Stand.the-variants.{Free, AfterPart, Inside, AfterLast, Owed}
-use Rattle.reader.specs.Rules.{mayFollow, partFault, countFault, standAfter, sumAfter, standAt, phaseAfter}
-use Rattle.reader.proofs.Faults.{part-kept}
+use Rattle.entry.specs.declared.Stand.{Stand}
+use Rattle.entry.specs.declared.Stand.the-variants.{Free, AfterPart, Inside, AfterLast, Owed}
+use Rattle.entry.specs.Rules.{mayFollow, partFault, countFault, standAfter, sumAfter, standAt, phaseAfter}
+use Rattle.entry.proofs.Faults.{part-kept}
 use Rattle.layout.specs.Items.{Laid, Tail, Piece, Token, tokens, tailTokens, middles, lateBy, joined, wholeOf, Each, Part, LateKept, SoundLaid, SoundTail}
 use Rattle.layout.specs.Items.Each.{each-none, each-more}
 use Rattle.layout.specs.Items.SoundLaid.{sound-entire, sound-spanned, sound-separator, sound-early}

@@ -9,11 +9,11 @@ use lib.ListN.{length}
 use Rattle.group.specs.declared.Kind.the-variants.{Skip}
 use Rattle.group.specs.declared.Phase.{Phase}
 use Rattle.group.specs.Sizes.{informationLength, lastNumber}
-use Rattle.reader.specs.declared.Stand.{Stand}
-use Rattle.reader.specs.declared.Stand.the-variants.{Free}
-use Rattle.reader.specs.Rules.{mayFollow, standAfter, sumAfter, standAt, phaseAfter}
-use Rattle.writer.specs.Laying.{Desk, desk, layEntry, layData, layPart, moved, laySkip, zeroGap, shut, warnState}
-use Rattle.writer.specs.Bounds.{span}
+use Rattle.entry.specs.declared.Stand.{Stand}
+use Rattle.entry.specs.declared.Stand.the-variants.{Free}
+use Rattle.entry.specs.Rules.{mayFollow, standAfter, sumAfter, standAt, phaseAfter}
+use Rattle.laying.specs.Laying.{Desk, desk, layEntry, layData, layPart, moved, laySkip, zeroGap, shut, warnState}
+use Rattle.laying.specs.Bounds.{span}
 use Rattle.layout.specs.Items.{Item, Piece, Token, grouped}
 use Rattle.layout.specs.Items.Token.{piece, groupEnd}
 use Rattle.layout.specs.Items.Item.{recordItem, separatorItem}

@@ -7,17 +7,17 @@ use mathlib.Core.Path.{_≡_, refl, sym, ap, _∙_}
 use lib.ListN.{length, take, replicate, length-replicate}
 use Rattle.group.specs.declared.Entry.{Entry}
 use Rattle.group.specs.Sizes.{informationLength, longestRecord}
-use Rattle.group.specs.Store.{put}
+use Rattle.numbers.specs.Store.{put}
 use Rattle.group.specs.Flags.{meaningOf}
 use Rattle.group.specs.Entries.{entriesBelow}
-use Rattle.group.proofs.Tests.{within}
-use Rattle.group.proofs.Stores.{put-stands}
+use Rattle.numbers.proofs.Tests.{within}
+use Rattle.numbers.proofs.Stores.{put-stands}
 use Rattle.group.proofs.EntryLaws.{length-entries}
 use Rattle.reader.specs.declared.Reader.{Reader}
-use Rattle.reader.specs.declared.Stand.{Stand}
+use Rattle.entry.specs.declared.Stand.{Stand}
 use Rattle.reader.specs.declared.ReadAnswer.{ReadAnswer}
 use Rattle.reader.specs.declared.ReadAnswer.the-variants as answer
-use Rattle.reader.specs.Scan.{rowsFrom, reachedBy}
+use Rattle.entry.specs.Scan.{rowsFrom, reachedBy}
 use Rattle.reader.specs.Answer.{fresh, readCall, groupRows, rowsLeft}
 use Rattle.reader.proofs.Accepted.{accepted}
 use Rattle.layout.specs.Items.{Item, Piece, grouped, tokens}

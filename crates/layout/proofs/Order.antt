@@ -9,7 +9,7 @@ use lib.ListN.{length, getD}
 use borrow.Author.Tests.{eq-eqb, ne-eqb}
 use Rattle.group.proofs.StateLaws.{sound-of-run}
 use Rattle.reader.specs.declared.Reader.{Reader}
-use Rattle.reader.specs.declared.ScanEnd.the-variants.{Reached}
+use Rattle.entry.specs.declared.ScanEnd.the-variants.{Reached}
 use Rattle.reader.specs.declared.ReadAnswer.the-variants as answer
 use Rattle.reader.specs.Answer.{closing, readRefusal, readCall, groupRows, rowsLeft}
 use Rattle.reader.proofs.Accepted.{Ready, Passed, accepted, read-refused}

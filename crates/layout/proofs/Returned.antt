@@ -12,17 +12,17 @@ use Rattle.group.specs.declared.Phase.{Phase}
 use Rattle.group.specs.declared.Phase.the-variants as phase
 use Rattle.group.specs.Sizes.{leastSize, standardSize, informationLength}
 use Rattle.group.specs.State.{startRefusal}
-use Rattle.group.proofs.Tests.{within}
+use Rattle.numbers.proofs.Tests.{within}
 use Rattle.group.proofs.StateLaws.{started}
-use Rattle.reader.specs.declared.Stand.the-variants as stand
-use Rattle.reader.specs.Rules.{standAt}
+use Rattle.entry.specs.declared.Stand.the-variants as stand
+use Rattle.entry.specs.Rules.{standAt}
 use Rattle.reader.specs.Answer.{fresh}
-use Rattle.writer.specs.declared.Writer.{Writer}
-use Rattle.writer.specs.declared.WriterStart.the-variants as start
-use Rattle.writer.specs.declared.WriteAnswer.{WriteAnswer}
-use Rattle.writer.specs.declared.WriteAnswer.the-variants.{Finished, Closed, Refused}
-use Rattle.writer.specs.Laying.{Desk, desk}
-use Rattle.writer.specs.Calls.{Call, call, freshState, writerStartCall}
+use Rattle.laying.specs.declared.Writer.{Writer}
+use Rattle.laying.specs.declared.WriterStart.the-variants as start
+use Rattle.laying.specs.declared.WriteAnswer.{WriteAnswer}
+use Rattle.laying.specs.declared.WriteAnswer.the-variants.{Finished, Closed, Refused}
+use Rattle.laying.specs.Laying.{Desk, desk}
+use Rattle.laying.specs.Calls.{Call, call, freshState, writerStartCall}
 use Rattle.layout.specs.Items.{Piece, grouped}
 use Rattle.layout.specs.Items.Token.{piece}
 use Rattle.layout.specs.Layout.{Image, Run, Lays}

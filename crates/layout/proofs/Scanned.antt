@@ -13,14 +13,14 @@ use Rattle.group.specs.declared.Kind.{Kind}
 use Rattle.group.specs.declared.Kind.the-variants.{Skip}
 use Rattle.group.specs.Entries.{entry}
 use Rattle.group.specs.Flags.{flagOf}
-use Rattle.group.proofs.Tests.{and}
+use Rattle.numbers.proofs.Tests.{and}
 use Rattle.group.proofs.FlagLaws.{meaning-of-flag}
-use Rattle.reader.specs.declared.Stand.{Stand}
-use Rattle.reader.specs.declared.Cursor.{Cursor}
-use Rattle.reader.specs.declared.ScanEnd.the-variants.{Reached}
-use Rattle.reader.specs.Rules.{mayFollow, isSkip, standAt, phaseAfter, advance, b4Kept, reachedAfter}
-use Rattle.reader.specs.Scan.{isLast, scan}
-use Rattle.reader.proofs.Faults.{Kept, no-fault}
+use Rattle.entry.specs.declared.Stand.{Stand}
+use Rattle.entry.specs.declared.Cursor.{Cursor}
+use Rattle.entry.specs.declared.ScanEnd.the-variants.{Reached}
+use Rattle.entry.specs.Rules.{mayFollow, isSkip, standAt, phaseAfter, advance, b4Kept, reachedAfter}
+use Rattle.entry.specs.Scan.{isLast, scan}
+use Rattle.entry.proofs.Faults.{Kept, no-fault}
 use Rattle.layout.specs.Items.{Piece, Token}
 use Rattle.layout.specs.Items.Piece.{aTotal, aSeparator, aMiddle, aStart, aLast, anEntire}
 use Rattle.layout.specs.Items.Token.{piece, groupEnd}

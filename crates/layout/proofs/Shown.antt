@@ -9,19 +9,19 @@ use lib.ListN.{length, length-append, replicate, length-replicate}
 use lib.Dec.{leb, lit≤}
 use borrow.Author.Tests.{leb-true}
 use Rattle.group.specs.Sizes.{lastNumber}
-use Rattle.group.proofs.Tests.{both}
+use Rattle.numbers.proofs.Tests.{both}
 use Rattle.group.specs.declared.Phase.{Phase}
 use Rattle.group.specs.declared.Phase.the-variants as phase
-use Rattle.group.specs.Store.{put}
-use Rattle.group.specs.Numbers.{numberAt, bytesOf}
+use Rattle.numbers.specs.Store.{put}
+use Rattle.numbers.specs.Numbers.{numberAt, bytesOf}
 use Rattle.group.specs.Entries.{entryAt, entryBytes, entriesBelow, tableBytes}
 use Rattle.group.specs.Flags.{meaningOf}
 use Rattle.group.specs.State.{runSound, startRefusal}
 use Rattle.group.proofs.EntryLaws.{length-table}
 use Rattle.reader.specs.declared.Reader.{Reader}
 use Rattle.reader.specs.declared.ReaderStart.the-variants as start
-use Rattle.reader.specs.Rules.{mayFollow, entryFault}
-use Rattle.reader.specs.Scan.{scan, rowsFrom}
+use Rattle.entry.specs.Rules.{mayFollow, entryFault}
+use Rattle.entry.specs.Scan.{scan, rowsFrom}
 use Rattle.reader.specs.Answer.{fresh, readerStartCall, readRefusal, readCall, groupScan, groupRows}
 use Rattle.layout.specs.Items.{Laid, Tail, Piece, Each, SoundLaid, SoundTail, items, soFar, tokens, tailTokens, middles, lateBy, grouped, joined, wholeOf}
 use Rattle.layout.specs.Items.Each.{each-none, each-more}

@@ -11,17 +11,17 @@ use lib.Seq.{take-take}
 use Rattle.group.specs.declared.Phase.{Phase}
 use Rattle.group.specs.declared.Phase.the-variants as phase
 use Rattle.group.specs.Sizes.{informationLength, lastNumber, entryOffset, sizeKept, numberKept}
-use Rattle.group.specs.Numbers.{Bytes}
+use Rattle.numbers.specs.Numbers.{Bytes}
 use Rattle.group.specs.Entries.{entryAt, entriesBelow, tableBytes}
-use Rattle.group.proofs.Tests.{within}
+use Rattle.numbers.proofs.Tests.{within}
 use Rattle.group.proofs.EntryLaws.{small-entries, table-of-entries}
 use Rattle.group.proofs.EntryLaws as entries
 use Rattle.reader.specs.declared.Reader.{Reader}
-use Rattle.reader.specs.declared.Stand.{Stand}
-use Rattle.reader.specs.declared.Stand.the-variants.{Free}
-use Rattle.reader.specs.declared.Cursor.{Cursor}
+use Rattle.entry.specs.declared.Stand.{Stand}
+use Rattle.entry.specs.declared.Stand.the-variants.{Free}
+use Rattle.entry.specs.declared.Cursor.{Cursor}
 use Rattle.reader.specs.declared.ReadAnswer.the-variants as answer
-use Rattle.reader.specs.Rules.{standAt}
+use Rattle.entry.specs.Rules.{standAt}
 use Rattle.reader.specs.Answer.{fresh, opening, closing, groupScan, readCall}
 use Rattle.reader.proofs.Accepted.{Ready, Passed, accepted}
 use Rattle.layout.specs.Items.{Piece, Token, Each, grouped, tokens}

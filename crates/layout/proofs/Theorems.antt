@@ -11,7 +11,7 @@ use Rattle.group.proofs.StateLaws.{started}
 use Rattle.reader.specs.declared.Reader.{Reader}
 use Rattle.reader.specs.declared.ReaderStart.the-variants as start
 use Rattle.reader.specs.Answer.{fresh, readerStartCall}
-use Rattle.writer.specs.Laying.{Desk}
+use Rattle.laying.specs.Laying.{Desk}
 use Rattle.layout.specs.Items.{Item, Each}
 use Rattle.layout.specs.Layout.{Image, Lays}
 use Rattle.layout.specs.Accepting.{Accepts, Lent}

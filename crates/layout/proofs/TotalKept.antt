@@ -11,10 +11,10 @@ use Rattle.group.specs.declared.Kind.the-variants.{Total, Skip}
 use Rattle.group.specs.declared.Phase.{Phase}
 use Rattle.group.specs.declared.Phase.the-variants as phase
 use Rattle.group.specs.Flags.{kindNumber}
-use Rattle.reader.specs.declared.Stand.{Stand}
-use Rattle.reader.specs.declared.Stand.the-variants.{Free, AfterPart, Inside, AfterLast, Owed}
-use Rattle.reader.specs.Rules.{isAmong, mayFollow, standAfter, standAt, phaseAfter}
-use Rattle.writer.specs.Laying.{Desk}
+use Rattle.entry.specs.declared.Stand.{Stand}
+use Rattle.entry.specs.declared.Stand.the-variants.{Free, AfterPart, Inside, AfterLast, Owed}
+use Rattle.entry.specs.Rules.{isAmong, mayFollow, standAfter, standAt, phaseAfter}
+use Rattle.laying.specs.Laying.{Desk}
 use Rattle.layout.specs.Items.{Piece, Token, grouped}
 use Rattle.layout.specs.Items.Token.{piece, groupEnd}
 use Rattle.layout.specs.Items.Piece.{aTotal, aSeparator, aMiddle, aStart, aLast, anEntire}

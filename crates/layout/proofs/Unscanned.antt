@@ -16,16 +16,16 @@ use Rattle.group.specs.declared.Meaning.{Meaning}
 use Rattle.group.specs.declared.Meaning.the-variants.{Known, Unknown}
 use Rattle.group.specs.Entries.{entry}
 use Rattle.group.specs.Flags.{flagOf, meaningOf}
-use Rattle.group.proofs.Tests.{both}
+use Rattle.numbers.proofs.Tests.{both}
 use Rattle.group.proofs.FlagLaws.{flag-of-meaning}
 use Rattle.group.proofs.EntryLaws.{Small}
-use Rattle.reader.specs.declared.Stand.{Stand}
-use Rattle.reader.specs.declared.Cursor.{Cursor}
-use Rattle.reader.specs.declared.ScanEnd.the-variants.{Reached}
-use Rattle.reader.specs.Rules.{mayFollow, isSkip, standAt, phaseAfter, advance, b4Kept, reachedAfter, roomKept, entryFault}
-use Rattle.reader.specs.Scan.{after, scan}
-use Rattle.reader.proofs.Faults.{Kept, kept, unknown-fault}
-use Rattle.reader.proofs.Scans.{went-on}
+use Rattle.entry.specs.declared.Stand.{Stand}
+use Rattle.entry.specs.declared.Cursor.{Cursor}
+use Rattle.entry.specs.declared.ScanEnd.the-variants.{Reached}
+use Rattle.entry.specs.Rules.{mayFollow, isSkip, standAt, phaseAfter, advance, b4Kept, reachedAfter, roomKept, entryFault}
+use Rattle.entry.specs.Scan.{after, scan}
+use Rattle.entry.proofs.Faults.{Kept, kept, unknown-fault}
+use Rattle.entry.proofs.Scans.{went-on}
 use Rattle.layout.specs.Items.{Piece, Token}
 use Rattle.layout.specs.Items.Piece.{aTotal, aSeparator, aMiddle, aStart, aLast, anEntire}
 use Rattle.layout.specs.Items.Token.{piece, groupEnd}

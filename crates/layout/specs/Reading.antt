@@ -6,7 +6,7 @@ use mathlib.Core.List.{List, [], _∷_, _++_}
 use mathlib.Core.Bool.{cond}
 use lib.ListN.{take, drop}
 use lib.Dec.{eqb}
-use Rattle.group.specs.Numbers.{Bytes}
+use Rattle.numbers.specs.Numbers.{Bytes}
 use Rattle.layout.specs.Items.{Item, Piece}
 use Rattle.layout.specs.Items.Item.{recordItem, separatorItem}
 use Rattle.layout.specs.Items.Piece.{aTotal, aSeparator, aMiddle, aStart, aLast, anEntire}

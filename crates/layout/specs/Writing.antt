@@ -7,13 +7,13 @@ use lib.ListN.{length, take, drop}
 use Rattle.group.specs.declared.Phase.{Phase}
 use Rattle.group.specs.declared.Phase.the-variants.{Free, Inside, Owed}
 use Rattle.group.specs.Sizes.{informationLength}
-use Rattle.writer.specs.declared.Writer.{Writer}
-use Rattle.writer.specs.declared.WriterStart.the-variants as start
-use Rattle.writer.specs.declared.WriteAnswer.{WriteAnswer}
-use Rattle.writer.specs.declared.WriteAnswer.the-variants.{Finished, Closed, Refused}
-use Rattle.writer.specs.Laying.{Desk, desk}
-use Rattle.writer.specs.Calls.{Call, call, writerStartCall}
-use Rattle.writer.specs.Calls.Call.{aRecord, aSeparator, anEnd}
+use Rattle.laying.specs.declared.Writer.{Writer}
+use Rattle.laying.specs.declared.WriterStart.the-variants as start
+use Rattle.laying.specs.declared.WriteAnswer.{WriteAnswer}
+use Rattle.laying.specs.declared.WriteAnswer.the-variants.{Finished, Closed, Refused}
+use Rattle.laying.specs.Laying.{Desk, desk}
+use Rattle.laying.specs.Calls.{Call, call, writerStartCall}
+use Rattle.laying.specs.Calls.Call.{aRecord, aSeparator, anEnd}
 use Rattle.layout.specs.Items.{Item}
 use Rattle.layout.specs.Items.Item.{recordItem, separatorItem}
 use Rattle.layout.specs.Layout.{Image}

@@ -1,8 +1,5 @@
 // The bench program: reads a run from standard input and prints what its groups hold. Document 01, "Bench program". What the
 // sections say and how each line reads are proved in `sections` and `text`; here they are read, judged and written.
-mod sections;
-mod text;
-
 use group::Phase;
 use libc::STDIN_FILENO;
 use libc::STDOUT_FILENO;
@@ -12,7 +9,7 @@ use reader::ReaderStart;
 use sections::Sections;
 ghost use Prim.Native.Nat.{_+_, _*_, _≤_};
 ghost use lib.ListN.{length};
-ghost use Rattle.lister.specs.Sections.{Within};
+ghost use Rattle.sections.specs.Sections.{Within};
 
 // The longest sections: 16 bytes, and a pair for each of 1,024 groups.
 const SECTIONS_LENGTH: usize = 4112;
@@ -47,13 +44,13 @@ fn say_bad() {
 
 fn say_refusal(number: u32, place: u32) {
     let mut line = [0u8; 64];
-    let length = text::add_refusal(&mut line, 0, number, place);
+    let length = lines::add_refusal(&mut line, 0, number, place);
     io::write_all(STDOUT_FILENO, &line[..length]);
 }
 
 fn say_end(phase: Phase, sum: u32) {
     let mut line = [0u8; 64];
-    let length = text::add_end(&mut line, 0, phase, sum);
+    let length = lines::add_end(&mut line, 0, phase, sum);
     io::write_all(STDOUT_FILENO, &line[..length]);
 }
 
@@ -62,7 +59,7 @@ fn say_group(number: u32, entries: u32, rows: &[u32])
     requires { ⌜ (3 * entries ≤ length (now rows)) × (entries ≤ 1016) ⌝ }
 {
     let mut lines = [0u8; LINES_LENGTH];
-    let length = text::add_group(&mut lines, 0, number, entries, rows);
+    let length = lines::add_group(&mut lines, 0, number, entries, rows);
     io::write_all(STDOUT_FILENO, &lines[..length]);
 }
 

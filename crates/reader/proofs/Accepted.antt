@@ -11,16 +11,16 @@ use lib.ListN.{length}
 use Rattle.group.specs.declared.Phase.the-variants as phase
 use Rattle.group.specs.Sizes.{lastNumber, informationLength, entryLength, entriesKept, entryOffset}
 use Rattle.group.specs.Entries.{entriesBelow}
-use Rattle.group.proofs.Tests.{both, passed}
+use Rattle.numbers.proofs.Tests.{both, passed}
 use Rattle.group.proofs.StateLaws.{Run, run-of-sound, sound-of-run, sum-small}
 use Rattle.reader.specs.declared.Reader.{Reader}
-use Rattle.reader.specs.declared.Cursor.{Cursor}
-use Rattle.reader.specs.declared.ScanEnd.{ScanEnd}
-use Rattle.reader.specs.declared.ScanEnd.the-variants as scanned
+use Rattle.entry.specs.declared.Cursor.{Cursor}
+use Rattle.entry.specs.declared.ScanEnd.{ScanEnd}
+use Rattle.entry.specs.declared.ScanEnd.the-variants as scanned
 use Rattle.reader.specs.declared.ReadAnswer.the-variants as answer
 use Rattle.reader.specs.Answer.{sound, lengthKept, nextIs, rowsFit, readRefusal, opening, closing, groupScan, answered, readCall}
-use Rattle.reader.specs.Bounds.{Cut, Bounded, Within}
-use Rattle.reader.proofs.Scans.{within}
+use Rattle.entry.specs.Bounds.{Cut, Bounded, Within}
+use Rattle.entry.proofs.Scans.{within}
 
 -- No refusal before the scan, as facts on numbers.
 pub record Ready (s : Reader) (size number n room : ℕ) : Type 0 where

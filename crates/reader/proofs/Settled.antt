@@ -4,10 +4,11 @@ use mathlib.Core.Path.{_≡_, sym, ap, _∙_}
 use mathlib.Core.List.{List}
 use Prim.Native.Nat.{ℕ, _/_}
 use lib.ListN.{length}
+use Rattle.numbers.specs.Numbers.{inBytes}
 use Rattle.reader.specs.declared.Reader.{Reader}
 use Rattle.reader.specs.declared.ReaderStart.{ReaderStart}
 use Rattle.reader.specs.declared.ReadAnswer.{ReadAnswer}
-use Rattle.reader.specs.Answer.{readerStartCall, readCall, groupRows, rowsLeft, inBytes}
+use Rattle.reader.specs.Answer.{readerStartCall, readCall, groupRows, rowsLeft}
 
 pub start-settled : (size first : ℕ) (a b : ReaderStart) → a ≡ readerStartCall size first → b ≡ readerStartCall size first → a ≡ b
 start-settled size first a b e f = e ∙ sym f

@@ -15,19 +15,19 @@ use Rattle.group.specs.declared.Meaning.the-variants.{Known, Unknown}
 use Rattle.group.specs.Sizes.{longestRecord}
 use Rattle.group.specs.Flags.{meaningOf}
 use Rattle.group.specs.State.{sumKept}
-use Rattle.group.proofs.Tests.{both, within, is-within}
+use Rattle.numbers.proofs.Tests.{both, within, is-within}
 use Rattle.group.proofs.StateLaws.{Run, sound-of-run}
 use Rattle.reader.specs.declared.Reader.{Reader}
-use Rattle.reader.specs.declared.Stand.{Stand}
-use Rattle.reader.specs.declared.Stand.the-variants.{Free, AfterPart, Inside, AfterLast, Owed}
-use Rattle.reader.specs.declared.Cursor.{Cursor}
-use Rattle.reader.specs.declared.ScanEnd.the-variants.{Reached}
+use Rattle.entry.specs.declared.Stand.{Stand}
+use Rattle.entry.specs.declared.Stand.the-variants.{Free, AfterPart, Inside, AfterLast, Owed}
+use Rattle.entry.specs.declared.Cursor.{Cursor}
+use Rattle.entry.specs.declared.ScanEnd.the-variants.{Reached}
 use Rattle.reader.specs.declared.ReadAnswer.the-variants as answer
-use Rattle.reader.specs.Rules.{mayFollow, isSkip, countFault, standAt, phaseAfter, standAfter, sumAfter, entryFault}
-use Rattle.reader.specs.Scan.{after, isLast, scan}
+use Rattle.entry.specs.Rules.{mayFollow, isSkip, countFault, standAt, phaseAfter, standAfter, sumAfter, entryFault}
+use Rattle.entry.specs.Scan.{after, isLast, scan}
 use Rattle.reader.specs.Answer.{sound, opening, groupScan, readCall}
-use Rattle.reader.proofs.Faults.{kept, part-kept}
-use Rattle.reader.proofs.Scans.{went-on}
+use Rattle.entry.proofs.Faults.{kept, part-kept}
+use Rattle.entry.proofs.Scans.{went-on}
 use Rattle.reader.proofs.Accepted.{accepted}
 
 -- The sum suits a stand.

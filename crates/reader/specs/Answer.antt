@@ -7,20 +7,20 @@ use lib.Dec.{eqb, leb}
 use lib.ListN.{length}
 use Rattle.group.specs.declared.Phase.the-variants as phase
 use Rattle.group.specs.Sizes.{informationLength, lastNumber, entriesKept, entryOffset}
-use Rattle.group.specs.Store.{put}
-use Rattle.group.specs.Numbers.{bytesOf}
+use Rattle.numbers.specs.Store.{put}
+use Rattle.numbers.specs.Numbers.{bytesOf}
 use Rattle.group.specs.Entries.{entriesBelow}
 use Rattle.group.specs.State.{runSound, startRefusal}
 use Rattle.reader.specs.declared.Reader.{Reader}
-use Rattle.reader.specs.declared.Cursor.{Cursor}
-use Rattle.reader.specs.declared.ScanEnd.{ScanEnd}
-use Rattle.reader.specs.declared.ScanEnd.the-variants as scanned
+use Rattle.entry.specs.declared.Cursor.{Cursor}
+use Rattle.entry.specs.declared.ScanEnd.{ScanEnd}
+use Rattle.entry.specs.declared.ScanEnd.the-variants as scanned
 use Rattle.reader.specs.declared.ReaderStart.{ReaderStart}
 use Rattle.reader.specs.declared.ReaderStart.the-variants as start
 use Rattle.reader.specs.declared.ReadAnswer.{ReadAnswer}
 use Rattle.reader.specs.declared.ReadAnswer.the-variants as answer
-use Rattle.reader.specs.Rules.{standAt, phaseAfter}
-use Rattle.reader.specs.Scan.{scan, rowsFrom}
+use Rattle.entry.specs.Rules.{standAt, phaseAfter}
+use Rattle.entry.specs.Scan.{scan, rowsFrom}
 
 -- "A reader starts with L and the first number."
 abbrev pub fresh : ℕ → ℕ → Reader
@@ -88,11 +88,6 @@ groupRows s group n = rowsFrom 0 (entriesBelow group (s .size - informationLengt
 abbrev pub rowsLeft : ReadAnswer → List ℕ → List ℕ → List ℕ
 rowsLeft (answer.Accepted t) new old = put old 0 new
 rowsLeft (answer.Refused s number place) new old = old
-
--- "There .. rows are lent byte slices, each number four bytes, most significant first."
-unfoldable pub inBytes : List ℕ → List ℕ
-inBytes [] = []
-inBytes (n ∷ ns) = bytesOf 4 n ++ inBytes ns
 
 -- The numbers that the firmware sees of each case: refusal, place, outcome, group number, entry count, bytes taken.
 abbrev pub told : ReadAnswer → List ℕ

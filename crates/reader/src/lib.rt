@@ -1,16 +1,16 @@
 // Reads Basic Groups: document 01, "Which entry may follow" and "Reading". A start, a read with its rows, and a read's
 // judgement without them. None of them requires anything: what may not be is refused with a number and a place.
+mod ends;
 mod row_bytes;
 mod rows;
-mod rules;
-mod scan;
-mod singles;
 
 ghost use mathlib.Core.Path.{_≡_};
 ghost use Prim.Native.Nat.{_/_};
 ghost use lib.ListN.{length};
+ghost use Rattle.numbers.specs.Numbers.{inBytes};
 ghost use Rattle.group.specs.Coded.{flagTable};
-ghost use Rattle.reader.specs.Answer.{readerStartCall, readRefusal, readCall, groupRows, rowsLeft, inBytes};
+ghost use Rattle.reader.specs.Answer.{readerStartCall, readRefusal, readCall, groupRows, rowsLeft};
+use entry::ScanEnd;
 use group::Group;
 use group::Phase;
 
@@ -35,30 +35,6 @@ pub enum ReadAnswer {
         number: u32,
         place: u32,
     },
-}
-
-// Where the scan of a group stands among the records.
-pub enum Stand {
-    Free,
-    AfterPart,
-    Inside,
-    AfterLast,
-    Owed,
-}
-
-// What the scan carries from entry to entry.
-pub struct Cursor {
-    pub stand: Stand,
-    pub warned: bool,
-    pub sum: u32,
-    pub reached: u32,
-}
-
-// How a scan ends: at the table's end, or at the first entry that breaks a rule, with its number, its place and where the
-// scan stood.
-pub enum ScanEnd {
-    Reached(Cursor),
-    Refused(u32, u32, Cursor),
 }
 
 impl Reader {
@@ -123,7 +99,7 @@ impl Reader {
                 place: 0,
             };
         }
-        let opening = scan::opening(self);
+        let opening = ends::opening(self);
         let size = group.len() as u32;
         match scan::scan_entries(flags, group, size, entries, opening) {
             ScanEnd::Refused(fault, place, _) => ReadAnswer::Refused {
@@ -131,7 +107,7 @@ impl Reader {
                 number: fault,
                 place,
             },
-            ScanEnd::Reached(cursor) => ReadAnswer::Accepted(scan::closing(self, cursor)),
+            ScanEnd::Reached(cursor) => ReadAnswer::Accepted(ends::closing(self, cursor)),
         }
     }
 

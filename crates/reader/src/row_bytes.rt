@@ -3,15 +3,15 @@ ghost use mathlib.Core.Path.{_≡_};
 ghost use mathlib.Core.List.{[], _∷_};
 ghost use Prim.Native.Nat.{_+_, _*_, _-_, _≤_};
 ghost use lib.ListN.{length};
+ghost use Rattle.numbers.specs.Numbers.{inBytes};
 ghost use Rattle.group.specs.Sizes.{informationLength, longestRecord, entryOffset};
-ghost use Rattle.group.specs.Store.{put};
+ghost use Rattle.numbers.specs.Store.{put};
 ghost use Rattle.group.specs.Entries.{entryAt, entriesBelow};
 ghost use Rattle.group.specs.Flags.{meaningOf};
 ghost use Rattle.group.specs.Coded.{flagTable};
-ghost use Rattle.reader.specs.Scan.{rowKind, reachedBy, rowsFrom};
-ghost use Rattle.reader.specs.Answer.{inBytes};
-ghost use Rattle.reader.specs.Bounds.{Cut, Within};
-use crate::rules;
+ghost use Rattle.entry.specs.Scan.{rowKind, reachedBy, rowsFrom};
+ghost use Rattle.entry.specs.Bounds.{Cut, Within};
+use entry::rules;
 use group::Group;
 
 // The row of the entry at `at`, as bytes from index `i` on. Answers the data offset reached after it. Between two numbers'
@@ -31,10 +31,10 @@ fn put_row(
     ensures { λ _. ⌜ now (rows .exit) ≡ put (now (rows .entry)) i (inBytes (rowKind (meaningOf (entryAt (now (group .entry)) at .flag)) ∷ reached ∷ entryAt (now (group .entry)) at .count ∷ [])) ⌝ }
 {
     let flag = group[at];
-    group::numbers::put_number(rows, i + 4, reached);
-    let count = group::numbers::move_count(rows, i + 8, group, at, flag);
+    numbers::put_number(rows, i + 4, reached);
+    let count = group::entries::move_count(rows, i + 8, group, at, flag);
     let code = group::flags::code_in(flags, flag);
-    group::numbers::put_number(rows, i, (code / 2) as u32);
+    numbers::put_number(rows, i, (code / 2) as u32);
     rules::reached_by(flag, code, reached, count)
 }
 

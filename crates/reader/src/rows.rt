@@ -3,12 +3,12 @@ ghost use mathlib.Core.Path.{_≡_};
 ghost use Prim.Native.Nat.{_*_, _-_, _≤_};
 ghost use lib.ListN.{length};
 ghost use Rattle.group.specs.Sizes.{informationLength, entryOffset};
-ghost use Rattle.group.specs.Store.{put};
+ghost use Rattle.numbers.specs.Store.{put};
 ghost use Rattle.group.specs.Entries.{entriesBelow};
 ghost use Rattle.group.specs.Coded.{flagTable};
-ghost use Rattle.reader.specs.Scan.{rowsFrom};
-ghost use Rattle.reader.specs.Bounds.{Cut, Within};
-use crate::rules;
+ghost use Rattle.entry.specs.Scan.{rowsFrom};
+ghost use Rattle.entry.specs.Bounds.{Cut, Within};
+use entry::rules;
 use group::Group;
 
 // Three numbers an entry, from the table's top downward.
@@ -26,7 +26,7 @@ pub(crate) fn fill(flags: &[[u8; 16]; 16], group: &[u8], size: u32, entries: u32
     while 0 < left {
         top = top - Group::ENTRY_LENGTH;
         left = left - 1;
-        let entry = group::numbers::entry_at(group, top as usize);
+        let entry = group::entries::entry_at(group, top as usize);
         let flag = entry.flag;
         let count = entry.count;
         let code = group::flags::code_in(flags, flag);

@@ -1,5 +1,4 @@
 -- What the theorems are made of, and the theorems.
-pub mod RowLaws
 pub mod SmallRows
 pub mod Told
 pub mod Writing

@@ -6,28 +6,27 @@ use mathlib.Core.List.{List, [], _∷_}
 use Prim.Native.Nat.{ℕ, _*_, _/_, _^_, _≤_, _<_}
 use native.Mathlib.Omega.{arith}
 use lib.ListN.{length}
+use Rattle.numbers.proofs.InBytes.{length-in-bytes, length-numbers, numbers-put, field-of-bytes}
+use Rattle.numbers.specs.Numbers.{numbersIn, inBytes}
 use Rattle.group.specs.declared.Phase.{Phase}
 use Rattle.group.specs.declared.Phase.the-variants.{Free, Inside, Owed}
 use Rattle.group.specs.Sizes.{leastSize, standardSize, lastNumber}
-use Rattle.group.specs.Store.{put}
-use Rattle.group.proofs.Tests.{within}
+use Rattle.numbers.specs.Store.{put}
+use Rattle.numbers.proofs.Tests.{within}
 use Rattle.group.proofs.StateLaws.{Run, started, sound-of-run}
 use Rattle.reader.specs.declared.Reader.{Reader}
 use Rattle.reader.specs.declared.ReaderStart.the-variants as start
 use Rattle.reader.specs.declared.ReadAnswer.{ReadAnswer}
 use Rattle.reader.specs.declared.ReadAnswer.the-variants as read
-use Rattle.reader.specs.Answer.{sound, readerStartCall, readCall, groupRows, rowsLeft, inBytes}
-use Rattle.reader.proofs.RowBytes.{length-in-bytes}
+use Rattle.reader.specs.Answer.{sound, readerStartCall, readCall, groupRows, rowsLeft}
 use Rattle.reader.proofs.Sound.{sound-again}
 use Rattle.layout.specs.Layout.{Image}
 use Rattle.layout.specs.Accepting.{Accepts, Lent, lentTo}
 use Rattle.layout.proofs.Complete.{begun-at}
-use Rattle.dds.specs.Slices.{readerLength, answerLength, lengthsKept, phaseNumber, phaseMeant, readerOf, readerNumbers, readerMeant}
-use Rattle.dds.specs.Calls.{Outcome, answered, ofLengths, ofMeaning, ddsReaderStart, ddsRead}
-use Rattle.dds.proofs.SliceLaws.{field-of-bytes}
-use Rattle.dds.proofs.States.{reader-of-bytes, sound-reader-fits}
-use Rattle.trip.specs.ThroughC.{rowNumbers, Loan, LentC, AcceptsC}
-use Rattle.trip.proofs.RowLaws.{length-numbers, numbers-put}
+use Rattle.slices.specs.Slices.{readerLength, answerLength, lengthsKept, phaseNumber, phaseMeant, readerOf, readerNumbers, readerMeant}
+use Rattle.c_reader.specs.Calls.{Outcome, answered, ofLengths, ofMeaning, ddsReaderStart, ddsRead}
+use Rattle.slices.proofs.States.{reader-of-bytes, sound-reader-fits}
+use Rattle.trip.specs.ThroughC.{Loan, LentC, AcceptsC}
 use Rattle.trip.proofs.SmallRows.{small-rows, length-group-rows}
 
 -- The bytes of a reader's state.
@@ -87,16 +86,16 @@ read-through s t group number n rows answer h l e = rw (kept-lengths (slice s) a
 -- The row numbers for which the loans have room.
 abbrev pub numbersLent : List Loan → List (List ℕ)
 numbersLent [] = []
-numbersLent (loan ∷ loans) = rowNumbers (loan .rows) ∷ numbersLent loans
+numbersLent (loan ∷ loans) = numbersIn (loan .rows) ∷ numbersLent loans
 
 pub enough-lent : {run : List Image} {loans : List Loan} → LentC run loans → Lent run (numbersLent loans)
 enough-lent LentC.lent-none = Lent.lent-none
 enough-lent (LentC.lent-more {g} {gs} {loan} h l r) =
-    let long : 3 * g .entries ≤ length (rowNumbers (loan .rows)) = omega (arith, length-numbers (loan .rows)) in
+    let long : 3 * g .entries ≤ length (numbersIn (loan .rows)) = omega (arith, length-numbers (loan .rows)) in
     Lent.lent-more long (enough-lent r)
 
 one-more : (s t : Reader) (g : Image) (loan : Loan) (old : List ℕ) {gs : List Image} {loans : List Loan} {rows : List (List ℕ)} {final : List ℕ} →
-    sound s ≡ true → 12 * g .entries ≤ length (loan .rows) → length (loan .answer) ≡ answerLength → old ≡ rowNumbers (loan .rows) →
+    sound s ≡ true → 12 * g .entries ≤ length (loan .rows) → length (loan .answer) ≡ answerLength → old ≡ numbersIn (loan .rows) →
     readCall s (g .bytes) (g .number) (g .entries) (length old) ≡ read.Accepted t → AcceptsC (slice t) gs loans rows final →
     AcceptsC (slice s) (g ∷ gs) (loan ∷ loans) (rowsLeft (readCall s (g .bytes) (g .number) (g .entries) (length old)) (groupRows s (g .bytes) (g .entries)) old ∷ rows) final
 one-more s t g loan old {gs} {loans} {rows} {final} h long l same e a =
@@ -105,9 +104,9 @@ one-more s t g loan old {gs} {loans} {rows} {final} h long l same e a =
     let f : readCall s (g .bytes) (g .number) (g .entries) (length (loan .rows) / 4) ≡ read.Accepted t = ap (readCall s (g .bytes) (g .number) (g .entries)) (sym room) ∙ e in
     let d = read-through s t (g .bytes) (g .number) (g .entries) (loan .rows) (loan .answer) h l f in
     let small = small-rows s t (g .bytes) (g .number) (g .entries) (length old) e in
-    let left : rowNumbers (put (loan .rows) 0 (inBytes new)) ≡ put (rowNumbers (loan .rows)) 0 new =
+    let left : numbersIn (put (loan .rows) 0 (inBytes new)) ≡ put (numbersIn (loan .rows)) 0 new =
     numbers-put (loan .rows) new small (omega (arith, length-group-rows s (g .bytes) (g .entries))) in
-    let row : rowNumbers (put (loan .rows) 0 (inBytes new)) ≡ rowsLeft (readCall s (g .bytes) (g .number) (g .entries) (length old)) new old =
+    let row : numbersIn (put (loan .rows) 0 (inBytes new)) ≡ rowsLeft (readCall s (g .bytes) (g .number) (g .entries) (length old)) new old =
     left ∙ ap (λ (k : List ℕ). put k 0 new) (sym same) ∙ sym (ap (λ (x : ReadAnswer). rowsLeft x new old) e) in
     subst (λ (k : List ℕ). AcceptsC (slice s) (g ∷ gs) (loan ∷ loans) (k ∷ rows) final) row (AcceptsC.accepts-more d refl a)
 
@@ -117,7 +116,7 @@ pub accepted-through : {s t : Reader} {run : List Image} {rows : List (List ℕ)
 unfolding lentTo
 accepted-through Accepts.accepts-none h LentC.lent-none e = AcceptsC.accepts-none
 accepted-through (Accepts.accepts-more {s} {t} {u} {g} {gs} {rows} old e a) h (LentC.lent-more {loan = loan} {loans = loans} long l r) q =
-    let same : old ≡ rowNumbers (loan .rows) = cc in
+    let same : old ≡ numbersIn (loan .rows) = cc in
     let rest : lentTo a ≡ numbersLent loans = cc in
     one-more s t g loan old h long l same e (accepted-through a (sound-again s t (g .bytes) (g .number) (g .entries) (length old) e) r rest)
 

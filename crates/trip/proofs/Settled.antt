@@ -8,16 +8,17 @@ use native.Mathlib.Omega.{arith}
 use lib.Dec.{eqb}
 use lib.ListN.{length, getD}
 use borrow.Author.Tests.{eqb-true, eqb-false}
+use Rattle.numbers.specs.Numbers.{numbersIn}
 use Rattle.reader.specs.declared.Reader.{Reader}
 use Rattle.reader.specs.declared.ReadAnswer.the-variants as read
 use Rattle.reader.specs.Answer as reader
 use Rattle.reader.specs.Answer.{readRefusal, readCall, groupScan, told}
 use Rattle.reader.proofs.Accepted.{ready}
 use Rattle.layout.specs.Layout.{Image}
-use Rattle.dds.specs.Slices.{readerLength, answerLength, lengthsKept, readerOf, readerMeant}
-use Rattle.dds.specs.Calls.{Outcome, answered, ofLengths, ofMeaning, ddsReaderStart, ddsRead}
-use Rattle.dds.proofs.Outcomes.{lengths}
-use Rattle.trip.specs.ThroughC.{rowNumbers, Loan, LentC, AcceptsC}
+use Rattle.slices.specs.Slices.{readerLength, answerLength, lengthsKept, readerOf, readerMeant}
+use Rattle.c_reader.specs.Calls.{Outcome, answered, ofLengths, ofMeaning, ddsReaderStart, ddsRead}
+use Rattle.c_reader.proofs.Outcomes.{lengths}
+use Rattle.trip.specs.ThroughC.{Loan, LentC, AcceptsC}
 
 -- A call that returned 0 was stopped neither by its slices' lengths nor by a number that has no meaning.
 kept-lengths : (kept : Bool) (state lent answer : List ℕ) (done : Outcome) → ofLengths kept state lent answer done .number ≡ 0 → (kept ≡ true) × (done .number ≡ 0)
@@ -66,6 +67,6 @@ same-reading AcceptsC.accepts-none AcceptsC.accepts-none = (refl, refl)
 same-reading {other = other} (AcceptsC.accepts-more {gs = gs} {loans = loans} {rows = rows} {o = o} e n a) (AcceptsC.accepts-more {rows = others} {o = p} f m b) =
     let same : p ≡ o = sym f ∙ e in
     let r = same-reading a (subst (λ (o : Outcome). AcceptsC (o .state) gs loans others other) same b) in
-    let row : rowNumbers (p .lent) ≡ rowNumbers (o .lent) = ap (λ (o : Outcome). rowNumbers (o .lent)) same in
+    let row : numbersIn (p .lent) ≡ numbersIn (o .lent) = ap (λ (o : Outcome). numbersIn (o .lent)) same in
     let first = r .0 in
     (cc, r .1)

@@ -8,16 +8,16 @@ use mathlib.Core.Bool.{true, false}
 use mathlib.Core.Path.{_≡_, refl}
 use borrow.Author.Tests.{leb-true}
 use lib.ListN.{length, replicate}
-use Rattle.reader.specs.Answer.{inBytes}
-use Rattle.writer.specs.Calls.{startTold}
-use Rattle.writer.specs.Calls.Call.{aRecord, aSeparator, anEnd}
+use Rattle.numbers.specs.Numbers.{inBytes}
+use Rattle.laying.specs.Calls.{startTold}
+use Rattle.laying.specs.Calls.Call.{aRecord, aSeparator, anEnd}
 use Rattle.layout.specs.Items.Item.{recordItem, separatorItem}
 use Rattle.layout.specs.Layout.{Image}
 use Rattle.layout.specs.Writing.{Account, blank, totalLaid, inHand, afterRecord, afterSeparator, noted, imageOf}
 use Rattle.layout.specs.BenchTable.{from}
 use Rattle.layout.proofs.Bench.{opens}
-use Rattle.dds.specs.Slices.{lengthsKept, writerOf, writerMeant}
-use Rattle.dds.specs.Calls.{ofLengths, ofMeaning, ddsWriterStart, writing, ddsRecord, ddsSeparator, ddsEnd}
+use Rattle.slices.specs.Slices.{lengthsKept, writerOf, writerMeant}
+use Rattle.c_reader.specs.Calls.{ofLengths, ofMeaning, ddsWriterStart, writing, ddsRecord, ddsSeparator, ddsEnd}
 use Rattle.trip.specs.ThroughC.{callC, Loan, LentC, WroteC}
 use Rattle.trip.specs.ThroughC.WroteC.{begins, goes-on, closes, refused}
 use Rattle.trip.specs.Stated.{GivesBackC}

@@ -8,6 +8,7 @@ use native.Mathlib.Omega.{arith}
 use borrow.Author.Tests.{eqb-true, leb-true}
 use lib.Dec.{eqb, leb}
 use lib.ListN.{length}
+use Rattle.numbers.proofs.InBytes.{Smalls}
 use Rattle.group.specs.declared.Entry.{Entry}
 use Rattle.group.specs.declared.Kind.{Kind}
 use Rattle.group.specs.declared.Kind.the-variants.{Total, Separator, Middle, Start, Last, Entire, Skip}
@@ -18,17 +19,16 @@ use Rattle.group.specs.Flags.{meaningOf}
 use Rattle.group.specs.Entries.{entriesBelow}
 use Rattle.group.proofs.EntryLaws.{length-entries}
 use Rattle.reader.specs.declared.Reader.{Reader}
-use Rattle.reader.specs.declared.Cursor.{Cursor}
-use Rattle.reader.specs.declared.ScanEnd.the-variants.{Reached}
+use Rattle.entry.specs.declared.Cursor.{Cursor}
+use Rattle.entry.specs.declared.ScanEnd.the-variants.{Reached}
 use Rattle.reader.specs.declared.ReadAnswer.the-variants as answer
-use Rattle.reader.specs.Rules.{entryFault, skipKept, countFault}
-use Rattle.reader.specs.Scan.{after, isLast, scan, rowKind, reachedBy, rowsFrom}
-use Rattle.reader.specs.Bounds.{Bounded}
+use Rattle.entry.specs.Rules.{entryFault, skipKept, countFault}
+use Rattle.entry.specs.Scan.{after, isLast, scan, rowKind, reachedBy, rowsFrom}
+use Rattle.entry.specs.Bounds.{Bounded}
 use Rattle.reader.specs.Answer.{opening, groupScan, groupRows, readCall}
-use Rattle.reader.proofs.Faults.{kept, unknown-fault, part-kept, stays}
-use Rattle.reader.proofs.Scans.{went-on}
+use Rattle.entry.proofs.Faults.{kept, unknown-fault, part-kept, stays}
+use Rattle.entry.proofs.Scans.{went-on}
 use Rattle.reader.proofs.Accepted.{accepted, begins}
-use Rattle.trip.proofs.RowLaws.{Smalls}
 
 kind-small : (m : Meaning) → rowKind m < 256 ^ 4
 kind-small Unknown = omega arith

@@ -5,14 +5,14 @@ use mathlib.Core.List.{List}
 use mathlib.Core.Path.{_≡_, sym, ap, _∙_, subst}
 use lib.ListN.{length}
 use Rattle.reader.specs.declared.Reader.{Reader}
-use Rattle.writer.specs.Laying.{desk}
+use Rattle.laying.specs.Laying.{desk}
 use Rattle.layout.specs.Layout.{Image}
 use Rattle.layout.specs.Reading.{itemsRead, begunRead}
 use Rattle.layout.specs.Stated.{EndsWith}
 use Rattle.layout.specs.Writing.{Account}
 use Rattle.layout.proofs.Theorems.{returned}
-use Rattle.dds.specs.Slices.{readerLength, answerLength, writerOf}
-use Rattle.dds.specs.Calls.{Outcome, ddsReaderStart}
+use Rattle.slices.specs.Slices.{readerLength, answerLength, writerOf}
+use Rattle.c_reader.specs.Calls.{Outcome, ddsReaderStart}
 use Rattle.trip.specs.ThroughC.{Loan, LentC, WroteC, AcceptsC}
 use Rattle.trip.specs.Stated.{Written, GivesBackC}
 use Rattle.trip.proofs.Writing.{written-through}

@@ -13,14 +13,14 @@ use Rattle.group.specs.declared.Phase.{Phase}
 use Rattle.group.specs.declared.Phase.the-variants.{Free, Inside, Owed}
 use Rattle.group.specs.Sizes.{longestRecord}
 use Rattle.group.specs.State.{startRefusal}
-use Rattle.writer.specs.declared.Writer.{Writer}
-use Rattle.writer.specs.declared.WriterStart.{WriterStart}
-use Rattle.writer.specs.declared.WriterStart.the-variants as start
-use Rattle.writer.specs.declared.WriteAnswer.{WriteAnswer}
-use Rattle.writer.specs.declared.WriteAnswer.the-variants.{Finished, Closed, Refused}
-use Rattle.writer.specs.Laying.{Desk, desk, layEntry, layData, layPart, moved, warnState, payOwed, ready}
-use Rattle.writer.specs.Calls.{Done, done, finished, closed, orRefused, freshState, writerStartCall, recordAccepted, recordCall, separatorAccepted, separatorCall, endAccepted, endCall, Call, call}
-use Rattle.writer.specs.Calls.Call.{aRecord, aSeparator, anEnd}
+use Rattle.laying.specs.declared.Writer.{Writer}
+use Rattle.laying.specs.declared.WriterStart.{WriterStart}
+use Rattle.laying.specs.declared.WriterStart.the-variants as start
+use Rattle.laying.specs.declared.WriteAnswer.{WriteAnswer}
+use Rattle.laying.specs.declared.WriteAnswer.the-variants.{Finished, Closed, Refused}
+use Rattle.laying.specs.Laying.{Desk, desk, layEntry, layData, layPart, moved, warnState, payOwed, ready}
+use Rattle.laying.specs.Calls.{Done, done, finished, closed, orRefused, freshState, writerStartCall, recordAccepted, recordCall, separatorAccepted, separatorCall, endAccepted, endCall, Call, call}
+use Rattle.laying.specs.Calls.Call.{aRecord, aSeparator, anEnd}
 use Rattle.writer.proofs.SoundLaws.{Sound}
 use Rattle.writer.proofs.Accepted.{Offered, fits, record-accepted, separator-accepted, end-accepted}
 use Rattle.writer.proofs.CallLaws.{RecordedFree, recorded-free, RecordedInside, recorded-inside, SeparatorLaid, separator-laid, EndLaid, end-laid}

@@ -7,27 +7,26 @@ use Prim.Native.Nat.{ℕ, _^_, _<_}
 use native.Mathlib.Omega.{arith}
 use lib.Dec.{eqb}
 use lib.ListN.{length, getD}
+use Rattle.numbers.proofs.InBytes.{length-in-bytes, field-of-bytes}
+use Rattle.numbers.specs.Numbers.{inBytes}
 use Rattle.group.specs.declared.Phase.{Phase}
 use Rattle.group.specs.declared.Phase.the-variants.{Free, Inside, Owed}
 use Rattle.group.specs.Sizes.{informationLength}
-use Rattle.reader.specs.Answer.{inBytes}
-use Rattle.reader.proofs.RowBytes.{length-in-bytes}
-use Rattle.writer.specs.declared.Writer.{Writer}
-use Rattle.writer.specs.declared.WriterStart.{WriterStart}
-use Rattle.writer.specs.declared.WriterStart.the-variants as start
-use Rattle.writer.specs.declared.WriteAnswer.{WriteAnswer}
-use Rattle.writer.specs.declared.WriteAnswer.the-variants.{Finished, Closed, Refused}
-use Rattle.writer.specs.State.{writerSound}
-use Rattle.writer.specs.Laying.{Desk, desk}
-use Rattle.writer.specs.Calls.{Done, done, writerStartCall, startTold, recordCall, separatorCall, endCall, Call, call, refusalOf, told, stateOf}
-use Rattle.writer.specs.Calls.Call.{aRecord, aSeparator, anEnd}
+use Rattle.laying.specs.declared.Writer.{Writer}
+use Rattle.laying.specs.declared.WriterStart.{WriterStart}
+use Rattle.laying.specs.declared.WriterStart.the-variants as start
+use Rattle.laying.specs.declared.WriteAnswer.{WriteAnswer}
+use Rattle.laying.specs.declared.WriteAnswer.the-variants.{Finished, Closed, Refused}
+use Rattle.laying.specs.State.{writerSound}
+use Rattle.laying.specs.Laying.{Desk, desk}
+use Rattle.laying.specs.Calls.{Done, done, writerStartCall, startTold, recordCall, separatorCall, endCall, Call, call, refusalOf, told, stateOf}
+use Rattle.laying.specs.Calls.Call.{aRecord, aSeparator, anEnd}
 use Rattle.writer.proofs.Theorems.{refusal-told, refused-stays, sound-after, sound-start}
 use Rattle.layout.specs.Layout.{Image}
 use Rattle.layout.specs.Writing.{Account, noted, AsAsked, imageOf, Wrote}
-use Rattle.dds.specs.Slices.{writerLength, answerLength, lengthsKept, phaseNumber, phaseMeant, b4Number, b4Meant, writerOf, writerNumbers, writerMeant}
-use Rattle.dds.specs.Calls.{Outcome, outcome, answered, ofLengths, ofMeaning, writerStarted, ddsWriterStart, written, writing, ddsRecord, ddsSeparator, ddsEnd}
-use Rattle.dds.proofs.SliceLaws.{field-of-bytes}
-use Rattle.dds.proofs.States.{writer-of-bytes, sound-writer-fits}
+use Rattle.slices.specs.Slices.{writerLength, answerLength, lengthsKept, phaseNumber, phaseMeant, b4Number, b4Meant, writerOf, writerNumbers, writerMeant}
+use Rattle.c_reader.specs.Calls.{Outcome, outcome, answered, ofLengths, ofMeaning, writerStarted, ddsWriterStart, written, writing, ddsRecord, ddsSeparator, ddsEnd}
+use Rattle.slices.proofs.States.{writer-of-bytes, sound-writer-fits}
 use Rattle.trip.specs.ThroughC.{callC, phaseSeen, outcomeSeen, numberSeen, entriesSeen, finishedSeen, closedSeen, WroteC}
 use Rattle.trip.specs.Stated.{Written}
 use Rattle.trip.proofs.Told.{Tells, TellsStart, call-tells, start-tells}

@@ -4,15 +4,15 @@ use Prim.Native.Nat.{ℕ}
 use mathlib.Core.List.{List}
 use mathlib.Core.Bool.{true}
 use mathlib.Core.Path.{_≡_}
-use Rattle.reader.specs.Answer.{inBytes}
-use Rattle.writer.specs.State.{writerSound}
-use Rattle.writer.specs.Laying.{desk}
+use Rattle.numbers.specs.Numbers.{inBytes}
+use Rattle.laying.specs.State.{writerSound}
+use Rattle.laying.specs.Laying.{desk}
 use Rattle.layout.specs.Layout.{Image}
 use Rattle.layout.specs.Reading.{itemsRead, begunRead}
 use Rattle.layout.specs.Stated.{EndsWith}
 use Rattle.layout.specs.Writing.{Account, Wrote}
-use Rattle.dds.specs.Slices.{readerOf, writerOf, writerNumbers}
-use Rattle.dds.specs.Calls.{ddsReaderStart}
+use Rattle.slices.specs.Slices.{readerOf, writerOf, writerNumbers}
+use Rattle.c_reader.specs.Calls.{ddsReaderStart}
 use Rattle.trip.specs.ThroughC.{Loan, AcceptsC}
 
 -- The state slice is the bytes of a sound state, and with that state the writer's own calls wrote the same.

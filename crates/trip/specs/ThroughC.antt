@@ -7,15 +7,15 @@ use mathlib.Core.Path.{_≡_}
 use lib.ListN.{length}
 use Rattle.group.specs.declared.Phase.{Phase}
 use Rattle.group.specs.Sizes.{informationLength}
-use Rattle.group.specs.Numbers.{numberAt}
-use Rattle.writer.specs.declared.WriteAnswer.{WriteAnswer}
-use Rattle.writer.specs.declared.WriteAnswer.the-variants.{Finished, Closed}
-use Rattle.writer.specs.Calls.{Call}
-use Rattle.writer.specs.Calls.Call.{aRecord, aSeparator, anEnd}
+use Rattle.numbers.specs.Numbers.{numberAt, numbersIn, field}
+use Rattle.laying.specs.declared.WriteAnswer.{WriteAnswer}
+use Rattle.laying.specs.declared.WriteAnswer.the-variants.{Finished, Closed}
+use Rattle.laying.specs.Calls.{Call}
+use Rattle.laying.specs.Calls.Call.{aRecord, aSeparator, anEnd}
 use Rattle.layout.specs.Layout.{Image}
 use Rattle.layout.specs.Writing.{Account, blank, noted, AsAsked, imageOf}
-use Rattle.dds.specs.Slices.{answerLength, field, phaseOf, b4Number, writerOf}
-use Rattle.dds.specs.Calls.{Outcome, ddsRead, ddsWriterStart, ddsRecord, ddsSeparator, ddsEnd}
+use Rattle.slices.specs.Slices.{answerLength, phaseOf, b4Number, writerOf}
+use Rattle.c_reader.specs.Calls.{Outcome, ddsRead, ddsWriterStart, ddsRecord, ddsSeparator, ddsEnd}
 
 -- A call through its slices: the state, the group and the answer. Whether it sets b4 is the number 0 or 1.
 unfoldable pub callC : Call → List ℕ → List ℕ → List ℕ → Outcome
@@ -72,14 +72,6 @@ pub data WroteC (size first : ℕ) : List ℕ → List ℕ → List Image → Ac
       WroteC size first state group run closed now →
       callC c state group answer ≡ o → (o .number ≡ 0 → ⊥) → WroteC size first (o .state) (o .lent) run closed now
 
--- The numbers that stand in a slice of rows, four bytes each.
-unfoldable pub rowNumbers : List ℕ → List ℕ
-rowNumbers [] = []
-rowNumbers (a ∷ []) = []
-rowNumbers (a ∷ b ∷ []) = []
-rowNumbers (a ∷ b ∷ c ∷ []) = []
-rowNumbers (a ∷ b ∷ c ∷ d ∷ more) = numberAt 4 (a ∷ b ∷ c ∷ d ∷ []) 0 ∷ rowNumbers more
-
 -- What a read is lent besides the group: a slice for its rows and one for its answer.
 pub record Loan : Type 0 where
   pub rows : List ℕ
@@ -98,4 +90,4 @@ pub data AcceptsC : List ℕ → List Image → List Loan → List (List ℕ) �
   accepts-more : {state final : List ℕ} {g : Image} {gs : List Image} {loan : Loan} {loans : List Loan} {rows : List (List ℕ)} {o : Outcome} →
       ddsRead state (g .bytes) (g .number) (g .entries) (loan .rows) (loan .answer) ≡ o → o .number ≡ 0 →
       AcceptsC (o .state) gs loans rows final →
-      AcceptsC state (g ∷ gs) (loan ∷ loans) (rowNumbers (o .lent) ∷ rows) final
+      AcceptsC state (g ∷ gs) (loan ∷ loans) (numbersIn (o .lent) ∷ rows) final

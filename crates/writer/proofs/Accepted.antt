@@ -9,11 +9,11 @@ use lib.ListN.{length}
 use lib.Dec.{eqb}
 use borrow.Author.Tests.{leb-true, eqb-true, eqb-false, not-false, not-true}
 use Rattle.group.specs.Sizes.{longestRecord, lastNumber, recordKept}
-use Rattle.group.proofs.Tests.{within, passed}
+use Rattle.numbers.proofs.Tests.{within, passed}
 use Rattle.group.specs.declared.Phase.the-variants.{Inside}
-use Rattle.writer.specs.declared.Writer.{Writer}
-use Rattle.writer.specs.State.{isFree, isInside, isOwed, writerSound, lengthKept, remainsKept, noneOpenKept, valueKept, offerKept, endRemainsKept, endsEmpty, recordRefusal, separatorRefusal, endRefusal}
-use Rattle.writer.specs.Bounds.{Grown, Ready, Opened, span}
+use Rattle.laying.specs.declared.Writer.{Writer}
+use Rattle.laying.specs.State.{isFree, isInside, isOwed, writerSound, lengthKept, remainsKept, noneOpenKept, valueKept, offerKept, endRemainsKept, endsEmpty, recordRefusal, separatorRefusal, endRefusal}
+use Rattle.laying.specs.Bounds.{Grown, Ready, Opened, span}
 use Rattle.writer.proofs.SoundLaws.{Sound, sound, chosen}
 
 -- One entry more has its place in a sound state, whatever its phase.

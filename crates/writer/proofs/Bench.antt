@@ -6,16 +6,16 @@ use mathlib.Core.List.{List, [], _∷_, _++_, map}
 use Prim.Native.Nat.{ℕ, zero, suc}
 use lib.Dec.{eqb}
 use lib.ListN.{getD, replicate}
-use Rattle.group.specs.Store.{put}
-use Rattle.group.specs.Numbers.{bytesOf}
+use Rattle.numbers.specs.Store.{put}
+use Rattle.numbers.specs.Numbers.{bytesOf}
 use Rattle.group.specs.Entries.{entryBytes}
 use Rattle.group.specs.State.{runSound, startRefusal}
-use Rattle.writer.specs.declared.WriterStart.{WriterStart}
-use Rattle.writer.specs.declared.WriterStart.the-variants.{Started, Refused}
-use Rattle.writer.specs.State.{roomKept, emptyKept, restKept, dataKept, clearKept, spentKept, writerSound, recordRefusal, separatorRefusal, endRefusal}
-use Rattle.writer.specs.Room.{room, fitOf}
-use Rattle.writer.specs.Laying.{Desk, desk, layEntry, layData, layPart, moved, laySkip, zeroGap, shut, warnState, payOwed, ready}
-use Rattle.writer.specs.Calls.{Done, finished, closed, orRefused, writerStartCall, byFit, recordFree, middle, last, recordInside, recordAccepted, recordCall, separatorAccepted, separatorCall, endAccepted, endCall, Call, aRecord, aSeparator, anEnd, call, told, stateOf}
+use Rattle.laying.specs.declared.WriterStart.{WriterStart}
+use Rattle.laying.specs.declared.WriterStart.the-variants.{Started, Refused}
+use Rattle.laying.specs.State.{roomKept, emptyKept, restKept, dataKept, clearKept, spentKept, writerSound, recordRefusal, separatorRefusal, endRefusal}
+use Rattle.laying.specs.Room.{room, fitOf}
+use Rattle.laying.specs.Laying.{Desk, desk, layEntry, layData, layPart, moved, laySkip, zeroGap, shut, warnState, payOwed, ready}
+use Rattle.laying.specs.Calls.{Done, finished, closed, orRefused, writerStartCall, byFit, recordFree, middle, last, recordInside, recordAccepted, recordCall, separatorAccepted, separatorCall, endAccepted, endCall, Call, aRecord, aSeparator, anEnd, call, told, stateOf}
 
 -- A case: the byte that a lent group holds all over, the calls, what C is told of each, and the groups that they close.
 pub record Case : Type 0 where

@@ -12,18 +12,18 @@ use Rattle.group.specs.declared.Kind.the-variants.{Total, Separator, Middle, St
 use Rattle.group.specs.declared.Phase.{Phase}
 use Rattle.group.specs.declared.Phase.the-variants.{Free, Inside, Owed}
 use Rattle.group.specs.Sizes.{leastSize, standardSize, informationLength, longestRecord, lastNumber, entryOffset}
-use Rattle.group.specs.Store.{put}
+use Rattle.numbers.specs.Store.{put}
 use Rattle.group.specs.Flags.{flagOf}
 use Rattle.group.specs.Entries.{entry, entryBytes}
 use Rattle.group.specs.State.{sumKept}
-use Rattle.group.proofs.Tests.{within, is-within}
-use Rattle.group.proofs.Stores.{length-put, drop-put}
+use Rattle.numbers.proofs.Tests.{within, is-within}
+use Rattle.numbers.proofs.Stores.{length-put, drop-put}
 use Rattle.group.proofs.EntryLaws.{length-entry}
-use Rattle.writer.specs.declared.Writer.{Writer}
-use Rattle.writer.specs.State.{isFree, isInside}
-use Rattle.writer.specs.Laying.{Desk, desk, layEntry, layData, layPart, moved, laySkip, zeroGap, shut, warnState, payOwed, ready}
-use Rattle.writer.specs.Calls.{Done, finished, closed, recordFree, recordAccepted, separatorAccepted, endAccepted, told, stateOf}
-use Rattle.writer.specs.Bounds.{span}
+use Rattle.laying.specs.declared.Writer.{Writer}
+use Rattle.laying.specs.State.{isFree, isInside}
+use Rattle.laying.specs.Laying.{Desk, desk, layEntry, layData, layPart, moved, laySkip, zeroGap, shut, warnState, payOwed, ready}
+use Rattle.laying.specs.Calls.{Done, finished, closed, recordFree, recordAccepted, separatorAccepted, endAccepted, told, stateOf}
+use Rattle.laying.specs.Bounds.{span}
 use Rattle.writer.proofs.SoundLaws.{Nothing, Sound}
 use Rattle.writer.proofs.Accepted.{Accepted, Offered, Separated, Ended, fits}
 use Rattle.writer.proofs.CallLaws.{RecordedFree, entire, start, nothing, recorded-free, RecordedInside, part, total, owed, recorded-inside, SeparatorLaid, laid, not-laid, separator-laid, EndLaid, ends-nothing, ends-group, end-laid}

@@ -8,10 +8,10 @@ use lib.Dec.{eqb, ltb}
 use borrow.Author.Tests.{leb-true, ltb-true, eqb-true, eq-eqb, le-leb, lt-ltb, not-true}
 use Rattle.group.specs.Sizes.{informationLength, entryLength, longestRecord, lastNumber}
 use Rattle.group.specs.State.{runSound}
-use Rattle.group.proofs.Tests.{both, and}
+use Rattle.numbers.proofs.Tests.{both, and}
 use Rattle.group.proofs.StateLaws.{Run, run-of-sound, sound-of-run}
-use Rattle.writer.specs.declared.Writer.{Writer}
-use Rattle.writer.specs.State.{isFree, isInside, isEmpty, roomKept, emptyKept, restKept, dataKept, clearKept, spentKept, writerSound}
+use Rattle.laying.specs.declared.Writer.{Writer}
+use Rattle.laying.specs.State.{isFree, isInside, isEmpty, roomKept, emptyKept, restKept, dataKept, clearKept, spentKept, writerSound}
 
 -- What a choice says on each side, and a choice from both sides.
 pub chosen : (a b c : Bool) → cond a b c ≡ true → a ≡ true → b ≡ true

@@ -11,16 +11,16 @@ use lib.Signed.{leZ}
 use borrow.Author.Tests.{eqb-true, eqb-false}
 use Rattle.group.specs.Sizes.{leastSize, standardSize, informationLength, lastNumber}
 use Rattle.group.specs.State.{startRefusal}
-use Rattle.group.proofs.Tests.{within}
+use Rattle.numbers.proofs.Tests.{within}
 use Rattle.group.proofs.StateLaws.{started}
-use Rattle.writer.specs.declared.Writer.{Writer}
-use Rattle.writer.specs.declared.WriterStart.the-variants as start
-use Rattle.writer.specs.declared.WriteAnswer.the-variants.{Refused}
-use Rattle.writer.specs.State.{writerSound}
-use Rattle.writer.specs.Room.{room}
-use Rattle.writer.specs.Laying.{Desk}
-use Rattle.writer.specs.Calls.{Done, done, orRefused, freshState, writerStartCall, recordCall, separatorCall, endCall, Call, aRecord, aSeparator, anEnd, refusalOf, call, told, stateOf}
-use Rattle.writer.proofs.RoomLaws.{room-least}
+use Rattle.laying.specs.declared.Writer.{Writer}
+use Rattle.laying.specs.declared.WriterStart.the-variants as start
+use Rattle.laying.specs.declared.WriteAnswer.the-variants.{Refused}
+use Rattle.laying.specs.State.{writerSound}
+use Rattle.laying.specs.Room.{room}
+use Rattle.laying.specs.Laying.{Desk}
+use Rattle.laying.specs.Calls.{Done, done, orRefused, freshState, writerStartCall, recordCall, separatorCall, endCall, Call, aRecord, aSeparator, anEnd, refusalOf, call, told, stateOf}
+use Rattle.laying.proofs.RoomLaws.{room-least}
 use Rattle.writer.proofs.SoundLaws.{sound, is-sound}
 use Rattle.writer.proofs.Accepted.{fits, record-accepted, separator-accepted, end-accepted}
 use Rattle.writer.proofs.Left.{Stays, stays-same, Left, record-left, separator-left, end-left}

@@ -3,17 +3,17 @@ ghost use mathlib.Core.Path.{_≡_};
 ghost use Prim.Native.Nat.{_+_, _≤_, _<_};
 ghost use lib.ListN.{length};
 ghost use Rattle.group.specs.Sizes.{longestRecord, lastNumber};
-ghost use Rattle.writer.specs.Room.{middleLength};
-ghost use Rattle.writer.specs.Laying.{desk};
-ghost use Rattle.writer.specs.Calls.{done, recordFree, recordInside, middle, last, separatorAccepted};
-ghost use Rattle.writer.specs.Bounds.{Roomy, Opened};
-use crate::Fit;
-use crate::WriteAnswer;
-use crate::Writer;
-use crate::lay;
-use crate::room;
+ghost use Rattle.laying.specs.Room.{middleLength};
+ghost use Rattle.laying.specs.Laying.{desk};
+ghost use Rattle.laying.specs.Calls.{done, recordFree, recordInside, middle, last, separatorAccepted};
+ghost use Rattle.laying.specs.Bounds.{Roomy, Opened};
 use group::Kind;
 use group::Phase;
+use laying::Fit;
+use laying::WriteAnswer;
+use laying::Writer;
+use laying::lay;
+use laying::room;
 
 pub(crate) fn record_free(w: Writer, group: &mut [u8], data: &[u8]) -> WriteAnswer
     requires { ⌜ Roomy w (now group) ⌝ }

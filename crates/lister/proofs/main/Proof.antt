@@ -1,7 +1,7 @@
 -- `main` goes on with sections that are in range. Assumes nothing.
 use borrow.Author.Needs.{needs}
 use native.Mathlib.Omega.{arith}
-use Rattle.lister.proofs.SectionLaws.{within-found}
+use Rattle.sections.proofs.SectionLaws.{within-found}
 use Rattle.lister.proofs.main.Statement.{statement}
 use Rattle.lister.proofs.main.Tie as tie
 

@@ -5,7 +5,7 @@ use borrow.Author.Needs.{needs}
 use native.Mathlib.Omega.{arith}
 use lib.ListN.{length, take}
 use lib.Seq.{length-take-le}
-use Rattle.lister.proofs.SectionLaws.{next-ahead, whole-in-range}
+use Rattle.sections.proofs.SectionLaws.{next-ahead, whole-in-range}
 use Rattle.lister.proofs.read_sections.Statement.{statement}
 use Rattle.lister.proofs.read_sections.Tie as tie
 

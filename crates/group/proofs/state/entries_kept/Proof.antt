@@ -1,6 +1,6 @@
 -- `entries_kept` meets its contract. Assumes nothing.
 use borrow.Author.Needs.{needs}
-use Rattle.group.proofs.Tests.{tests}
+use Rattle.numbers.proofs.Tests.{tests}
 use Rattle.group.proofs.state.entries_kept.Statement.{statement}
 use Rattle.group.proofs.state.entries_kept.Tie as tie
 

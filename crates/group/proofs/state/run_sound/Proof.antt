@@ -1,7 +1,7 @@
 -- `run_sound` meets its contract: the tests of the definition, in its order. Assumes nothing.
 use borrow.Author.Needs.{needs}
 use Rattle.group.specs.State.{runSound}
-use Rattle.group.proofs.Tests.{fails, holds}
+use Rattle.numbers.proofs.Tests.{fails, holds}
 use Rattle.group.proofs.state.run_sound.Statement.{statement}
 use Rattle.group.proofs.state.run_sound.Tie as tie
 

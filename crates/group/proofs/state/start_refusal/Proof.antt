@@ -1,7 +1,7 @@
 -- `start_refusal` meets its contract: the tests of the definition, in its order. Assumes nothing.
 use borrow.Author.Needs.{needs}
 use Rattle.group.specs.State.{startRefusal}
-use Rattle.group.proofs.Tests.{fails, holds}
+use Rattle.numbers.proofs.Tests.{fails, holds}
 use Rattle.group.proofs.state.start_refusal.Statement.{statement}
 use Rattle.group.proofs.state.start_refusal.Tie as tie
 

@@ -6,9 +6,9 @@ use native.Mathlib.Omega.{arith}
 use lib.ListN.{length}
 use Rattle.group.specs.Sizes.{informationLength, entryOffset}
 use Rattle.group.specs.Entries.{entriesBelow}
-use Rattle.reader.specs.declared.ScanEnd.{ScanEnd}
+use Rattle.entry.specs.declared.ScanEnd.{ScanEnd}
 use Rattle.reader.specs.declared.ReadAnswer.the-variants as answer
-use Rattle.reader.specs.Scan.{scan}
+use Rattle.entry.specs.Scan.{scan}
 use Rattle.reader.specs.Answer.{groupScan, answered, readCall}
 use Rattle.reader.proofs.Accepted.{Ready, ready, cut, begins, read-refused, read-scanned}
 use Rattle.reader.proofs.Reader.judge_in.Statement.{statement}

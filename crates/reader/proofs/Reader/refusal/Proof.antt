@@ -1,7 +1,7 @@
 -- `Reader::refusal` meets its contract: the tests of the definition, in its order. Assumes nothing.
 use borrow.Author.Needs.{needs}
 use borrow.Author.Tests.{eq-eqb, ne-eqb, le-leb, lt-leb}
-use Rattle.group.proofs.Tests.{fails, holds}
+use Rattle.numbers.proofs.Tests.{fails, holds}
 use Rattle.reader.specs.Answer.{readRefusal}
 use Rattle.reader.proofs.Reader.refusal.Statement.{statement}
 use Rattle.reader.proofs.Reader.refusal.Tie as tie

@@ -4,11 +4,11 @@ use mathlib.Core.List.{List, [], _∷_}
 use Prim.Native.Nat.{ℕ, _+_, _*_, _-_, _≤_, _<_}
 use native.Mathlib.Omega.{arith}
 use lib.ListN.{length}
+use Rattle.numbers.proofs.InBytes.{put-more}
+use Rattle.numbers.specs.Numbers.{inBytes}
 use Rattle.group.specs.Sizes.{entryOffset}
-use Rattle.group.specs.Store.{put}
-use Rattle.reader.specs.Answer.{inBytes}
-use Rattle.reader.proofs.Filling.{Filled, filled-turn, filled-reach, filled-done}
-use Rattle.reader.proofs.RowBytes.{put-more}
+use Rattle.numbers.specs.Store.{put}
+use Rattle.entry.proofs.Filling.{Filled, filled-turn, filled-reach, filled-done}
 use Rattle.reader.proofs.row_bytes.fill_bytes.Statement.{statement}
 use Rattle.reader.proofs.row_bytes.fill_bytes.Tie as tie
 

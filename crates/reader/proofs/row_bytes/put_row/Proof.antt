@@ -5,13 +5,13 @@ use mathlib.Core.Path.{_≡_, refl, ap, _∙_}
 use mathlib.Core.List.{List, [], _∷_}
 use Prim.Native.Nat.{ℕ}
 use lib.ListN.{getD}
-use Rattle.group.specs.Store.{put}
+use Rattle.numbers.proofs.InBytes.{put-row}
+use Rattle.numbers.specs.Numbers.{inBytes}
+use Rattle.numbers.specs.Store.{put}
 use Rattle.group.specs.Entries.{entryAt}
 use Rattle.group.specs.Flags.{meaningOf}
-use Rattle.reader.specs.Scan.{rowKind, reachedBy}
-use Rattle.reader.specs.Answer.{inBytes}
-use Rattle.reader.proofs.Scans.{row-kind}
-use Rattle.reader.proofs.RowBytes.{put-row}
+use Rattle.entry.specs.Scan.{rowKind, reachedBy}
+use Rattle.entry.proofs.Scans.{row-kind}
 use Rattle.reader.proofs.row_bytes.put_row.Statement.{statement}
 use Rattle.reader.proofs.row_bytes.put_row.Tie as tie
 

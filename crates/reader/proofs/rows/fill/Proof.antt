@@ -5,11 +5,11 @@ use Prim.Native.Nat.{ℕ, _+_, _*_, _-_, _≤_, _<_}
 use native.Mathlib.Omega.{arith}
 use lib.ListN.{length, set, length-set}
 use Rattle.group.specs.Sizes.{entryOffset}
-use Rattle.group.specs.Store.{put}
+use Rattle.numbers.specs.Store.{put}
 use Rattle.group.specs.Flags.{meaningOf}
-use Rattle.group.proofs.Stores.{put-three, put-put}
-use Rattle.reader.proofs.Scans.{row-kind}
-use Rattle.reader.proofs.Filling.{Filled, filled-turn, filled-reach, filled-done}
+use Rattle.numbers.proofs.Stores.{put-three, put-put}
+use Rattle.entry.proofs.Scans.{row-kind}
+use Rattle.entry.proofs.Filling.{Filled, filled-turn, filled-reach, filled-done}
 use Rattle.reader.proofs.rows.fill.Statement.{statement}
 use Rattle.reader.proofs.rows.fill.Tie as tie
 

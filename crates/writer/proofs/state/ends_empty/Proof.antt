@@ -1,7 +1,7 @@
 -- `ends_empty` meets its contract. Assumes nothing.
 use borrow.Author.Needs.{needs}
 use mathlib.Core.Path.{sym, _∙_}
-use Rattle.group.proofs.Tests.{tests}
+use Rattle.numbers.proofs.Tests.{tests}
 use Rattle.writer.proofs.state.ends_empty.Statement.{statement}
 use Rattle.writer.proofs.state.ends_empty.Tie as tie
 

@@ -1,5 +1,5 @@
 -- `is_empty` meets its contract. Assumes nothing.
-use Rattle.group.proofs.Tests.{tests}
+use Rattle.numbers.proofs.Tests.{tests}
 use Rattle.writer.proofs.state.is_empty.Statement.{statement}
 use Rattle.writer.proofs.state.is_empty.Tie as tie
 

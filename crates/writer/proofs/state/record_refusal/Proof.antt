@@ -1,8 +1,8 @@
 -- `record_refusal` meets its contract: the tests of the definition, in its order. Assumes nothing.
 use borrow.Author.Needs.{needs}
 use borrow.Author.Tests.{eq-eqb, ne-eqb, le-leb, lt-leb}
-use Rattle.group.proofs.Tests.{fails, holds}
-use Rattle.writer.specs.State.{recordRefusal}
+use Rattle.numbers.proofs.Tests.{fails, holds}
+use Rattle.laying.specs.State.{recordRefusal}
 use Rattle.writer.proofs.state.record_refusal.Statement.{statement}
 use Rattle.writer.proofs.state.record_refusal.Tie as tie
 

@@ -1,9 +1,9 @@
 -- `separator_refusal` meets its contract: the tests of the definition, in its order. Assumes nothing.
 use borrow.Author.Needs.{needs}
 use borrow.Author.Tests.{eq-eqb, ne-eqb, le-leb, lt-leb}
-use Rattle.group.proofs.Tests.{fails, holds}
+use Rattle.numbers.proofs.Tests.{fails, holds}
 use mathlib.Core.Path.{sym, _∙_}
-use Rattle.writer.specs.State.{separatorRefusal}
+use Rattle.laying.specs.State.{separatorRefusal}
 use Rattle.writer.proofs.state.separator_refusal.Statement.{statement}
 use Rattle.writer.proofs.state.separator_refusal.Tie as tie
 

@@ -1,0 +1,2 @@
+pub mod LoaderOutcomes
+pub mod LoaderTrip

@@ -1,0 +1,18 @@
+-- `dds_alert_read` meets its contract: the answer's length, or what the call answers. Assumes nothing.
+use borrow.Author.Needs.{needs}
+use Rattle.c_loader.proofs.LoaderOutcomes.{by-length, alert-read}
+use Rattle.c_loader.proofs.calls.dds_alert_read.Statement.{statement}
+use Rattle.c_loader.proofs.calls.dds_alert_read.Tie as tie
+
+pub dds-alert-read-spec : {M : Type 1} → statement M
+dds-alert-read-spec =
+    tie.close
+    (tie.spec
+    (λ c. by-length _ _ _ _ (c .if1 .taken))
+    (λ c κs. search needs)
+    (λ c κs. search needs)
+    (λ c. search needs)
+    (λ c.
+    let t = c .before .before in
+    let m = t .before .before in
+    alert-read _ _ _ _ _ (m .before .if1 .left) (m .read .ensures) (t .tell-alert .ensures .0) (t .tell-alert .ensures .1)))

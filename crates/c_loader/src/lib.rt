@@ -1,0 +1,2 @@
+// calls on lent slices
+pub mod calls;

@@ -1,0 +1,3 @@
+// calls on lent slices
+pub mod reading;
+pub mod writing;

@@ -1,0 +1,2 @@
+pub mod TrackOutcomes
+pub mod TrackTrip

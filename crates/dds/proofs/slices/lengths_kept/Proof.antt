@@ -1,9 +1,0 @@
--- `lengths_kept` meets its contract: both tests. Assumes nothing.
-use Rattle.group.proofs.Tests.{tests}
-use Rattle.dds.specs.Slices.{lengthsKept}
-use Rattle.dds.proofs.slices.lengths_kept.Statement.{statement}
-use Rattle.dds.proofs.slices.lengths_kept.Tie as tie
-
-pub lengths-kept-spec : {M : Type 1} → statement M
-unfolding lengthsKept
-lengths-kept-spec = tie.close (tie.spec (λ c. search tests) (λ c. search tests))

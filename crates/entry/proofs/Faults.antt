@@ -1,0 +1,154 @@
+-- What each test of an entry tells of its fault, and what an entry without a fault leaves.
+-- Assumes nothing.
+use mathlib.Core.Path.{_≡_, refl}
+use mathlib.Core.Bool.{Bool, true, false, cond, not, _||_}
+use Prim.Native.Nat.{ℕ, _+_, _-_, _≤_}
+use native.Mathlib.Nat.{add-zero}
+use native.Mathlib.Omega.{arith}
+use borrow.Author.Tests.{eq-eqb, le-leb, ne-eqb, eqb-true, eqb-false, leb-true, not-false}
+use lib.Dec.{eqb, leb}
+use Rattle.group.specs.declared.Entry.{Entry}
+use Rattle.group.specs.declared.Kind.{Kind}
+use Rattle.group.specs.declared.Kind.the-variants.{Total, Separator, Middle, Start, Last, Entire, Skip}
+use Rattle.group.specs.declared.Meaning.{Meaning}
+use Rattle.group.specs.declared.Meaning.the-variants.{Known, Unknown}
+use Rattle.group.specs.Sizes.{longestRecord}
+use Rattle.group.specs.Flags.{flagOf, meaningOf}
+use Rattle.numbers.proofs.Tests.{passed}
+use Rattle.group.proofs.FlagLaws.{meaning-of-flag}
+use Rattle.entry.specs.declared.Cursor.{Cursor}
+use Rattle.entry.specs.Rules.{mayFollow, b4Kept, followKept, countFault, partFault, roomKept, skipKept, dataFault, entryFault, orElse, sumAfter, reachedAfter}
+use Rattle.entry.specs.Scan.{after}
+use Rattle.entry.specs.Bounds.{Bounded, freeAt, Single, separates, isEntire}
+
+-- Whatever the `||` of a list's end adds, it is nothing.
+pub or-false : (b : Bool) → b || false ≡ b
+or-false true = refl
+or-false false = refl
+
+-- The number of an entry's fault, test by test, where its flag means a kind.
+module _ (size limit : ℕ) (last : Bool) (c : Cursor) (m : Meaning) (k : Kind) (w : Bool) (count : ℕ) (e : m ≡ Known k w) where
+  pub nine : b4Kept (c .warned) w ≡ false → 9 ≡ entryFault size limit last c m count
+  unfolding entryFault
+  nine h = rw (e, h)
+
+  pub ten : b4Kept (c .warned) w ≡ true → followKept (c .stand) k last ≡ false → 10 ≡ entryFault size limit last c m count
+  unfolding entryFault
+  ten h i = rw (e, h, i)
+
+  pub eleven : b4Kept (c .warned) w ≡ true → followKept (c .stand) k last ≡ true → (n : ℕ) → n ≡ countFault k (c .sum) count → (n ≡ 0 → ⊥)
+      → n ≡ entryFault size limit last c m count
+  unfolding entryFault
+  eleven h i n f z = rw (e, h, i, ← f, ne-eqb n 0 z)
+
+  pub twelve : b4Kept (c .warned) w ≡ true → followKept (c .stand) k last ≡ true → countFault k (c .sum) count ≡ 0
+      → dataFault size limit (c .reached) k count ≡ entryFault size limit last c m count
+  unfolding entryFault
+  twelve h i f = rw (e, h, i, f)
+
+-- Every rule of an entry is kept.
+pub record Kept (size limit : ℕ) (last : Bool) (c : Cursor) (k : Kind) (w : Bool) (count : ℕ) : Type 0 where
+  pub b4 : b4Kept (c .warned) w ≡ true
+  pub follow : followKept (c .stand) k last ≡ true
+  pub counted : countFault k (c .sum) count ≡ 0
+  pub room : roomKept k (c .reached) count limit ≡ true
+  pub skip : skipKept k (c .reached) count size ≡ true
+
+or-none : (fault rest : ℕ) → orElse fault rest ≡ 0 → (fault ≡ 0) × (rest ≡ 0)
+or-none fault rest e = by (eqb fault 0) refl e
+  where
+    by : (t : Bool) → eqb fault 0 ≡ t → cond t rest fault ≡ 0 → (fault ≡ 0) × (rest ≡ 0)
+    by true x h = (eqb-true fault 0 x, h)
+    by false x h = absurd (eqb-false fault 0 x h)
+
+-- No fault is every rule kept, and the other way round.
+module _ (size limit : ℕ) (last : Bool) (c : Cursor) (k : Kind) (w : Bool) (count : ℕ) where
+  pub kept : entryFault size limit last c (Known k w) count ≡ 0 → Kept size limit last c k w count
+  unfolding entryFault
+  kept e =
+      let a = passed (not (b4Kept (c .warned) w)) 8 e in
+      let b = passed (not (followKept (c .stand) k last)) 9 (a .1) in
+      let d = or-none (countFault k (c .sum) count) (dataFault size limit (c .reached) k count) (b .1) in
+      let f = passed (not (roomKept k (c .reached) count limit)) 11 (d .1) in
+      let g = passed (not (skipKept k (c .reached) count size)) 12 (f .1) in
+      record {
+        b4 = not-false _ (a .0);
+        follow = not-false _ (b .0);
+        counted = d .0;
+        room = not-false _ (f .0);
+        skip = not-false _ (g .0);
+      }
+
+  pub no-fault : Kept size limit last c k w count → entryFault size limit last c (Known k w) count ≡ 0
+  unfolding entryFault
+  no-fault h = rw (h .b4, h .follow, h .counted, h .room, h .skip)
+
+-- A flag without a meaning is a fault.
+pub unknown-fault : (size limit : ℕ) (last : Bool) (c : Cursor) (count : ℕ) → entryFault size limit last c Unknown count ≡ 0 → ⊥
+unfolding entryFault
+unknown-fault size limit last c count e = omega arith
+
+-- A part's count and sum, where they keep their rule.
+pub part-kept : (count parts most : ℕ) → partFault count parts most ≡ 0 → (1 ≤ count) × (parts ≤ most)
+part-kept count parts most e = by (leb 1 count) refl (leb parts most) refl e
+  where
+    by : (a : Bool) → leb 1 count ≡ a → (b : Bool) → leb parts most ≡ b → _≡_ {A = ℕ} (cond a (cond b 0 11) 11) 0 → (1 ≤ count) × (parts ≤ most)
+    by true x true y h = (leb-true 1 count x, leb-true parts most y)
+    by true x false y h = absurd (omega arith)
+    by false x b y h = absurd (omega arith)
+
+-- The sum stays within the longest record.
+pub sum-small : (k : Kind) (sum count : ℕ) → countFault k sum count ≡ 0 → sum ≤ longestRecord → sumAfter k sum count ≤ longestRecord
+sum-small Total sum count e h = omega arith
+sum-small Separator sum count e h = omega arith
+sum-small Middle sum count e h = omega (arith, part-kept count (sum + count) (longestRecord - 1) e)
+sum-small Start sum count e h = omega (arith, part-kept count count (longestRecord - 1) e)
+sum-small Last sum count e h = omega (arith, part-kept count (sum + count) longestRecord e)
+sum-small Entire sum count e h = omega arith
+sum-small Skip sum count e h = h
+
+-- An entry without a fault leaves the scan's numbers as small as they were.
+pub stays : (size limit : ℕ) (last : Bool) (c : Cursor) (m : Meaning) (count : ℕ) → Bounded limit c → entryFault size limit last c m count ≡ 0
+    → Bounded limit (after c m count)
+stays size limit last c Unknown count b e = b
+stays size limit last c (Known k w) count b e =
+    let h = kept size limit last c k w count e in
+    record {
+      sum = sum-small k (c .sum) count (h .counted) (b .sum);
+      reached = leb-true (reachedAfter k (c .reached) count) limit (h .room);
+    }
+
+-- The b4 of the entry before it.
+same-b4 : (w : Bool) → b4Kept w w ≡ true
+same-b4 true = refl
+same-b4 false = refl
+
+-- A separator or an entire record between records, with room for its data, has no fault, and leaves the scan free.
+pub single-kept : (size limit : ℕ) (w : Bool) (sum reached bytes : ℕ) (e : Entry) → Single w e bytes → e .count ≤ longestRecord → reached + bytes ≤ limit
+    → entryFault size limit false (freeAt w sum reached) (meaningOf (e .flag)) (e .count) ≡ 0
+unfolding mayFollow
+single-kept size limit w sum reached bytes e (separates f n b) small fits =
+    rw (f, meaning-of-flag Separator w)
+    (no-fault size limit false _ Separator w (e .count)
+    (record { b4 = same-b4 w; follow = refl; counted = rw (le-leb _ _ n); room = le-leb reached limit (omega arith); skip = refl }))
+single-kept size limit w sum reached bytes e (isEntire f n b) small fits =
+    rw (f, meaning-of-flag Entire w)
+    (no-fault size limit false _ Entire w (e .count)
+    (record { b4 = same-b4 w; follow = refl; counted = rw (le-leb _ _ n, le-leb _ _ small); room = le-leb (reached + e .count) limit (omega arith); skip = refl }))
+
+pub single-after : (w : Bool) (sum reached bytes : ℕ) (e : Entry) → Single w e bytes
+    → after (freeAt w sum reached) (meaningOf (e .flag)) (e .count)
+    ≡ freeAt w 0 (reached + bytes)
+single-after w sum reached bytes e (separates f n b) = rw (f, meaning-of-flag Separator w, b, add-zero reached)
+single-after w sum reached bytes e (isEntire f n b) = rw (f, meaning-of-flag Entire w, b)
+
+-- A skip of all that is left of the group, where a skip may follow, has no fault, and leaves the scan where it stands.
+pub skip-kept : (size limit : ℕ) (c : Cursor) (e : Entry) → e .flag ≡ flagOf Skip (c .warned) → e .count ≡ size - c .reached → c .reached ≤ limit → mayFollow (c .stand) Skip ≡ true
+    → entryFault size limit true c (meaningOf (e .flag)) (e .count) ≡ 0
+skip-kept size limit c e f n r h =
+    rw (f, meaning-of-flag Skip (c .warned))
+    (no-fault size limit true c Skip (c .warned) (e .count)
+    (record { b4 = same-b4 (c .warned); follow = rw h; counted = refl; room = le-leb _ _ r; skip = eq-eqb _ _ n }))
+
+pub skip-after : (c : Cursor) (e : Entry) → e .flag ≡ flagOf Skip (c .warned) → after c (meaningOf (e .flag)) (e .count) ≡ c
+skip-after c e f = rw (f, meaning-of-flag Skip (c .warned))

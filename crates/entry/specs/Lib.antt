@@ -1,0 +1,3 @@
+pub mod Rules
+pub mod Scan
+pub mod Bounds

@@ -1,0 +1,135 @@
+-- Document 01, "Which entry may follow" and "Numbers the firmware sees", 8 to 13: the rules of one entry.
+-- Assumes nothing.
+use Prim.Native.Nat.{ℕ, _+_, _-_}
+use mathlib.Core.List.{List, [], _∷_}
+use mathlib.Core.Bool.{Bool, true, false, cond, not, _&&_, _||_}
+use lib.Dec.{eqb, leb}
+use Rattle.group.specs.declared.Kind.{Kind}
+use Rattle.group.specs.declared.Kind.the-variants.{Total, Separator, Middle, Start, Last, Entire, Skip}
+use Rattle.group.specs.declared.Phase.{Phase}
+use Rattle.group.specs.declared.Phase.the-variants as phase
+use Rattle.group.specs.declared.Meaning.{Meaning}
+use Rattle.group.specs.declared.Meaning.the-variants.{Known, Unknown}
+use Rattle.group.specs.Sizes.{longestRecord}
+use Rattle.group.specs.Flags.{kindNumber}
+use Rattle.entry.specs.declared.Stand.{Stand}
+use Rattle.entry.specs.declared.Stand.the-variants.{Free, AfterPart, Inside, AfterLast, Owed}
+use Rattle.entry.specs.declared.Cursor.{Cursor}
+
+-- "Which entry may follow", state by state.
+abbrev pub allowedAt : Stand → List Kind
+allowedAt Free = Start ∷ Separator ∷ Entire ∷ Skip ∷ []
+allowedAt AfterPart = Skip ∷ []
+allowedAt Inside = Middle ∷ Last ∷ []
+allowedAt AfterLast = Total ∷ Skip ∷ []
+allowedAt Owed = Total ∷ []
+
+abbrev pub isAmong : Kind → List Kind → Bool
+isAmong k [] = false
+isAmong k (j ∷ js) = eqb (kindNumber k) (kindNumber j) || isAmong k js
+
+unfoldable pub mayFollow : Stand → Kind → Bool
+mayFollow stand k = isAmong k (allowedAt stand)
+
+-- "Skip is always the last entry and stands nowhere else."
+abbrev pub isSkip : Kind → Bool
+isSkip k = isAmong k (Skip ∷ [])
+
+-- The kinds whose count is bytes of user data of this group: kinds 3 to 6.
+abbrev pub holdsData : Kind → Bool
+holdsData k = isAmong k (Middle ∷ Start ∷ Last ∷ Entire ∷ [])
+
+-- How a group's beginning stands, by what the group before it left.
+abbrev pub standAt : Phase → Stand
+standAt phase.Free = Free
+standAt phase.Inside = Inside
+standAt phase.Owed = Owed
+
+-- What a group leaves, by where its skip stood: "The next group begins inside the record", "With skip the total is owed".
+abbrev pub phaseAfter : Stand → Phase
+phaseAfter Free = phase.Free
+phaseAfter AfterPart = phase.Inside
+phaseAfter Inside = phase.Inside
+phaseAfter AfterLast = phase.Owed
+phaseAfter Owed = phase.Owed
+
+-- Free "after total, separator and entire"; after start or middle; after last.
+abbrev pub standAfter : Stand → Kind → Stand
+standAfter stand Total = Free
+standAfter stand Separator = Free
+standAfter stand Middle = AfterPart
+standAfter stand Start = AfterPart
+standAfter stand Last = AfterLast
+standAfter stand Entire = Free
+standAfter stand Skip = stand
+
+-- "the sum of parts so far"
+abbrev pub sumAfter : Kind → ℕ → ℕ → ℕ
+sumAfter Total sum count = 0
+sumAfter Separator sum count = 0
+sumAfter Middle sum count = sum + count
+sumAfter Start sum count = count
+sumAfter Last sum count = sum + count
+sumAfter Entire sum count = 0
+sumAfter Skip sum count = sum
+
+-- "User data stands from offset 0 upward without holes, in entry order."
+abbrev pub reachedAfter : Kind → ℕ → ℕ → ℕ
+reachedAfter k reached count = cond (holdsData k) (reached + count) reached
+
+-- Where the scan stands after an entry of this kind, with this b4 and count.
+abbrev pub advance : Cursor → Kind → Bool → ℕ → Cursor
+advance c k warned count =
+    record {
+      stand = standAfter (c .stand) k;
+      warned = warned;
+      sum = sumAfter k (c .sum) count;
+      reached = reachedAfter k (c .reached) count;
+    }
+
+-- 9: "once an entry of a group has it set, every later entry of that group has it set".
+abbrev pub b4Kept : Bool → Bool → Bool
+b4Kept before warned = not before || warned
+
+-- 10: the kind may follow, and a skip stands at entry n and nowhere else.
+abbrev pub followKept : Stand → Kind → Bool → Bool
+followKept stand k last = mayFollow stand k && cond last (isSkip k) (not (isSkip k))
+
+-- 11: a zero part, an over-long sum. A part's count is 1 or more, and the parts add to at most so much.
+abbrev pub partFault : ℕ → ℕ → ℕ → ℕ
+partFault count parts most = cond (leb 1 count) (cond (leb parts most) 0 11) 11
+
+-- 11 "covers a zero part, separator above 1, an over-long sum and a total that differs"; 0 if the count keeps its rule.
+abbrev pub countFault : Kind → ℕ → ℕ → ℕ
+countFault Total sum count = cond (eqb count sum) 0 11
+countFault Separator sum count = cond (leb count 1) 0 11
+countFault Middle sum count = partFault count (sum + count) (longestRecord - 1)
+countFault Start sum count = partFault count count (longestRecord - 1)
+countFault Last sum count = partFault count (sum + count) longestRecord
+countFault Entire sum count = partFault count count longestRecord
+countFault Skip sum count = 0
+
+-- 12: the data that this entry reaches stays within the limit, L − 32 − 4n.
+abbrev pub roomKept : Kind → ℕ → ℕ → ℕ → Bool
+roomKept k reached count limit = leb (reachedAfter k reached count) limit
+
+-- 13: a skip's count is "L less all data bytes before it".
+abbrev pub skipKept : Kind → ℕ → ℕ → ℕ → Bool
+skipKept k reached count size = cond (isSkip k) (eqb count (size - reached)) true
+
+-- A fault that is one, or else what comes after it in the order.
+abbrev pub orElse : ℕ → ℕ → ℕ
+orElse fault rest = cond (eqb fault 0) rest fault
+
+-- 12, then 13.
+abbrev pub dataFault : ℕ → ℕ → ℕ → Kind → ℕ → ℕ
+dataFault size limit reached k count =
+    cond (not (roomKept k reached count limit)) 12 (cond (not (skipKept k reached count size)) 13 0)
+
+-- "at one entry 8 to 13 in number order": the number of the first rule that is broken, 0 if none is.
+unfoldable pub entryFault : ℕ → ℕ → Bool → Cursor → Meaning → ℕ → ℕ
+entryFault size limit last c Unknown count = 8
+entryFault size limit last c (Known k warned) count =
+    cond (not (b4Kept (c .warned) warned)) 9
+    (cond (not (followKept (c .stand) k last)) 10
+    (orElse (countFault k (c .sum) count) (dataFault size limit (c .reached) k count)))

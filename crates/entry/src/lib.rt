@@ -1,0 +1,26 @@
+// The rules of one entry, and what a scan carries from entry to entry.
+pub mod rules;
+
+// Where the scan of a group stands among the records.
+pub enum Stand {
+    Free,
+    AfterPart,
+    Inside,
+    AfterLast,
+    Owed,
+}
+
+// What the scan carries from entry to entry.
+pub struct Cursor {
+    pub stand: Stand,
+    pub warned: bool,
+    pub sum: u32,
+    pub reached: u32,
+}
+
+// How a scan ends: at the table's end, or at the first entry that breaks a rule, with its number, its place and where the
+// scan stood.
+pub enum ScanEnd {
+    Reached(Cursor),
+    Refused(u32, u32, Cursor),
+}

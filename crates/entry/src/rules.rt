@@ -1,0 +1,257 @@
+// The rules of one entry, each as a number or a test.
+ghost use mathlib.Core.Path.{_≡_};
+ghost use Prim.Native.Nat.{_+_, _/_, _%_, _^_, _≤_, _<_};
+ghost use Rattle.group.specs.Sizes.{standardSize, longestRecord};
+ghost use Rattle.group.specs.Flags.{meaningOf};
+ghost use Rattle.group.specs.Coded.{codeOf, Below};
+ghost use Rattle.entry.specs.Rules.{mayFollow, isSkip, holdsData, standAfter, sumAfter, reachedAfter, b4Kept, partFault, countFault, followKept, dataFault, entryFault};
+ghost use Rattle.entry.specs.Scan.{after, reachedBy};
+ghost use Rattle.entry.specs.Bounds.{standNumber, followTable, Bounded};
+use crate::Cursor;
+use crate::Stand;
+use group::Group;
+use group::Kind;
+
+// By the stand's number and the kind's: whether an entry of that kind may follow. No kind has the number 0.
+const FOLLOWS: [[bool; 8]; 5] = [
+    [false, false, true, false, true, false, true, true],
+    [false, false, false, false, false, false, false, true],
+    [false, false, false, true, false, true, false, false],
+    [false, true, false, false, false, false, false, true],
+    [false, true, false, false, false, false, false, false],
+];
+
+// The table, to be bound and lent. A constant is built anew at each use, so it is bound only where an entry needs it.
+pub fn follows() -> [[bool; 8]; 5]
+    ensures { λ r. ⌜ r ≡ followTable ⌝ }
+{
+    FOLLOWS
+}
+
+pub fn stand_number(stand: Stand) -> usize
+    ensures { λ r. ⌜ r ≡ standNumber stand ⌝ }
+{
+    match stand {
+        Stand::Free => 0,
+        Stand::AfterPart => 1,
+        Stand::Inside => 2,
+        Stand::AfterLast => 3,
+        Stand::Owed => 4,
+    }
+}
+
+fn may_follow(follows: &[[bool; 8]; 5], stand: Stand, kind: Kind) -> bool
+    requires { ⌜ now follows ≡ followTable ⌝ }
+    ensures { λ r. ⌜ r ≡ mayFollow stand kind ⌝ }
+{
+    let row = stand_number(stand);
+    let column = group::flags::kind_number(kind) as usize;
+    follows[row][column]
+}
+
+fn is_skip(kind: Kind) -> bool
+    ensures { λ r. ⌜ r ≡ isSkip kind ⌝ }
+{
+    group::flags::kind_number(kind) == 7
+}
+
+// 10: the kind may follow, and a skip stands at entry n and nowhere else.
+fn follow_kept(follows: &[[bool; 8]; 5], stand: Stand, kind: Kind, last: bool) -> bool
+    requires { ⌜ now follows ≡ followTable ⌝ }
+    ensures { λ r. ⌜ r ≡ followKept stand kind last ⌝ }
+{
+    if !may_follow(follows, stand, kind) {
+        return false;
+    }
+    if last {
+        return is_skip(kind);
+    }
+    !is_skip(kind)
+}
+
+fn part_fault(count: u32, parts: u32, most: u32) -> u32
+    ensures { λ r. ⌜ r ≡ partFault count parts most ⌝ }
+{
+    if count < 1 {
+        return 11;
+    }
+    if most < parts {
+        return 11;
+    }
+    0
+}
+
+// 11, at each kind.
+fn count_fault(kind: Kind, sum: u32, count: u32) -> u32
+    requires { ⌜ (sum ≤ longestRecord) × (count ≤ longestRecord) ⌝ }
+    ensures { λ r. ⌜ r ≡ countFault kind sum count ⌝ }
+{
+    match kind {
+        Kind::Total => {
+            if count == sum {
+                return 0;
+            }
+            11
+        }
+        Kind::Separator => {
+            if count <= 1 {
+                return 0;
+            }
+            11
+        }
+        Kind::Middle => part_fault(count, sum + count, Group::LONGEST_RECORD - 1),
+        Kind::Start => part_fault(count, count, Group::LONGEST_RECORD - 1),
+        Kind::Last => part_fault(count, sum + count, Group::LONGEST_RECORD),
+        Kind::Entire => part_fault(count, count, Group::LONGEST_RECORD),
+        Kind::Skip => 0,
+    }
+}
+
+fn holds_data(kind: Kind) -> bool
+    ensures { λ r. ⌜ r ≡ holdsData kind ⌝ }
+{
+    match kind {
+        Kind::Total => false,
+        Kind::Separator => false,
+        Kind::Middle => true,
+        Kind::Start => true,
+        Kind::Last => true,
+        Kind::Entire => true,
+        Kind::Skip => false,
+    }
+}
+
+fn reached_after(kind: Kind, reached: u32, count: u32) -> u32
+    requires { ⌜ (reached ≤ longestRecord) × (count ≤ longestRecord) ⌝ }
+    ensures { λ r. ⌜ r ≡ reachedAfter kind reached count ⌝ }
+{
+    if holds_data(kind) {
+        reached + count
+    } else {
+        reached
+    }
+}
+
+fn stand_after(stand: Stand, kind: Kind) -> Stand
+    ensures { λ r. ⌜ r ≡ standAfter stand kind ⌝ }
+{
+    match kind {
+        Kind::Total => Stand::Free,
+        Kind::Separator => Stand::Free,
+        Kind::Middle => Stand::AfterPart,
+        Kind::Start => Stand::AfterPart,
+        Kind::Last => Stand::AfterLast,
+        Kind::Entire => Stand::Free,
+        Kind::Skip => stand,
+    }
+}
+
+fn sum_after(kind: Kind, sum: u32, count: u32) -> u32
+    requires { ⌜ (sum ≤ longestRecord) × (count ≤ longestRecord) ⌝ }
+    ensures { λ r. ⌜ r ≡ sumAfter kind sum count ⌝ }
+{
+    match kind {
+        Kind::Total => 0,
+        Kind::Separator => 0,
+        Kind::Middle => sum + count,
+        Kind::Start => count,
+        Kind::Last => sum + count,
+        Kind::Entire => 0,
+        Kind::Skip => sum,
+    }
+}
+
+// 12, then 13.
+fn data_fault(size: u32, limit: u32, reached: u32, kind: Kind, count: u32) -> u32
+    requires { ⌜ (reached ≤ limit) × ((limit ≤ size) × ((size ≤ standardSize) × (count ≤ longestRecord))) ⌝ }
+    ensures { λ r. ⌜ r ≡ dataFault size limit reached kind count ⌝ }
+{
+    if limit < reached_after(kind, reached, count) {
+        return 12;
+    }
+    if !is_skip(kind) {
+        return 0;
+    }
+    if count != size - reached {
+        return 13;
+    }
+    0
+}
+
+// 9: b4 that was set stays set.
+fn b4_kept(before: bool, warned: bool) -> bool
+    ensures { λ r. ⌜ r ≡ b4Kept before warned ⌝ }
+{
+    if before { warned } else { true }
+}
+
+// 8 to 13 of one entry, in number order: the number of the first rule that is broken, 0 if none is. `code` is what the flag
+// means, and `limit` is L − 32 − 4n.
+pub fn entry_fault(
+    follows: &[[bool; 8]; 5],
+    size: u32,
+    limit: u32,
+    last: bool,
+    here: Cursor,
+    flag: u8,
+    code: u8,
+    count: u32,
+) -> u32
+    requires { ⌜ (now follows ≡ followTable) × Below 16 (codeOf (meaningOf flag)) code ⌝ }
+    requires { ⌜ (Bounded limit here) × ((limit ≤ size) × ((size ≤ standardSize) × (count ≤ longestRecord))) ⌝ }
+    ensures { λ r. ⌜ r ≡ entryFault size limit last here (meaningOf flag) count ⌝ }
+{
+    if code < 2 {
+        return 8;
+    }
+    let kind = group::flags::kind_of(code);
+    if !b4_kept(here.warned, group::flags::b4(flag)) {
+        return 9;
+    }
+    let stand = here.stand;
+    if !follow_kept(follows, stand, kind, last) {
+        return 10;
+    }
+    let fault = count_fault(kind, here.sum, count);
+    if fault != 0 {
+        return fault;
+    }
+    data_fault(size, limit, here.reached, kind, count)
+}
+
+// Where the scan stands after an entry.
+pub fn advance(here: Cursor, flag: u8, code: u8, count: u32) -> Cursor
+    requires { ⌜ Below 16 (codeOf (meaningOf flag)) code ⌝ }
+    requires { ⌜ (here .sum ≤ longestRecord) × ((here .reached ≤ longestRecord) × (count ≤ longestRecord)) ⌝ }
+    ensures { λ r. ⌜ r ≡ after here (meaningOf flag) count ⌝ }
+{
+    if code < 2 {
+        return here;
+    }
+    let kind = group::flags::kind_of(code);
+    let stand = here.stand;
+    Cursor {
+        stand: stand_after(stand, kind),
+        warned: group::flags::b4(flag),
+        sum: sum_after(kind, here.sum, count),
+        reached: reached_after(kind, here.reached, count),
+    }
+}
+
+// 1 where the count is bytes of user data of this group, which it is for kinds 3 to 6; 0 otherwise. One bit for each code: a
+// choice by the kind would be a jump that the processor guesses wrong where kinds come mixed.
+fn share(code: u8) -> u32
+    requires { ⌜ code < 16 ⌝ }
+    ensures { λ r. ⌜ r ≡ 16320 / 2 ^ code % 2 ⌝ }
+{
+    (0x3FC0 >> code) % 2
+}
+
+// The data offset reached after an entry.
+pub fn reached_by(flag: u8, code: u8, reached: u32, count: u32) -> u32
+    requires { ⌜ Below 16 (codeOf (meaningOf flag)) code ⌝ }
+    requires { ⌜ (reached ≤ longestRecord) × (count ≤ longestRecord) ⌝ }
+    ensures { λ r. ⌜ r ≡ reachedBy (meaningOf flag) reached count ⌝ }
+{
+    reached + count * share(code)
+}

@@ -1,0 +1,36 @@
+-- Steps on a state and a group, one after the other, and the two clauses of a call's contract.
+-- Assumes nothing.
+use mathlib.Core.Path.{_≡_, ap, _∙_}
+use mathlib.Core.List.{List}
+use Prim.Native.Nat.{ℕ}
+use borrow.Author.Tests.{ne-eqb, eq-eqb}
+use Rattle.group.specs.declared.Phase.{Phase}
+use Rattle.laying.specs.declared.Writer.{Writer}
+use Rattle.laying.specs.declared.WriteAnswer.the-variants.{Closed, Refused}
+use Rattle.laying.specs.Laying.{Desk, desk, moved, movedState, nextState, layEntry, laySkip, zeroGap, shut}
+use Rattle.laying.specs.Calls.{Done, done, closed, orRefused}
+
+-- A state that is moved before a last step f.
+pub move-on : (f : Desk → Done) (p : Phase) (sum rest : ℕ) {m : Writer} (v : Writer) (h : List ℕ) {d : Desk}
+    → m ≡ movedState p sum rest v → desk v h ≡ d → f (desk m h) ≡ f (moved p sum rest d)
+unfolding moved
+move-on f p sum rest v h e k = ap (λ (s : Writer). f (desk s h)) e ∙ ap (λ (x : Desk). f (moved p sum rest x)) k
+
+-- A group whose skip is laid is closed by zeros in the gap.
+pub close-laid : (taken : ℕ) (w : Desk) {d : Desk} → d ≡ laySkip w
+    → done (Closed (nextState (d .state)) (d .state .next) (d .state .entries) taken) (zeroGap d .group) ≡ closed taken w
+unfolding closed shut laySkip layEntry zeroGap
+close-laid taken w e =
+    ap (λ (d : Desk). done (Closed (nextState (d .state)) (d .state .next) (d .state .entries) taken) (zeroGap d .group)) e
+
+-- A call that is refused, one that is not, and the two clauses of a call's contract.
+pub refuse : (k n : ℕ) (w : Desk) (a : Done) → n ≡ k → (n ≡ 0 → ⊥) → done (Refused (w .state) n) (w .group) ≡ orRefused k w a
+unfolding orRefused
+refuse k n w a e h = rw (← e, ne-eqb n 0 h)
+
+pub accept : (k : ℕ) (w : Desk) (a : Done) → k ≡ 0 → a ≡ orRefused k w a
+unfolding orRefused
+accept k w a e = rw (eq-eqb k 0 e)
+
+pub clauses : {d e : Done} → d ≡ e → (d .answer ≡ e .answer) × (d .group ≡ e .group)
+clauses e = (ap (λ (x : Done). x .answer) e, ap (λ (x : Done). x .group) e)

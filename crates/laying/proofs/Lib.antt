@@ -1,0 +1,3 @@
+pub mod SignedLaws
+pub mod RoomLaws
+pub mod Desks

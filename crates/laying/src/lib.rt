@@ -1,0 +1,47 @@
+// The state of a writer, and what is laid in a group.
+pub mod lay;
+pub mod room;
+
+use group::Phase;
+
+// A writer's state. The two fields that are one byte wide stand together: a struct is copied in words, and a word that is part
+// byte, part padding makes the processor wait.
+pub struct Writer {
+    pub size: u32,
+    pub next: u32,
+    pub phase: Phase,
+    pub warned: bool,
+    pub sum: u32,
+    pub rest: u32,
+    pub filled: u32,
+    pub entries: u32,
+}
+
+// A start's answer: the state, or the number of the refusal.
+pub enum WriterStart {
+    Started(Writer),
+    Refused(u32),
+}
+
+// A call's answer. The state stands first in each case, so that it lies at one place whichever it is.
+pub enum WriteAnswer {
+    Finished(Writer),
+    Closed {
+        state: Writer,
+        number: u32,
+        entries: u32,
+        taken: u32,
+    },
+    Refused {
+        state: Writer,
+        number: u32,
+    },
+}
+
+// How a record goes into the room of a free writer: whole, as a start of so many bytes, or not at all. Public since the
+// definitions that the contracts cite name it; no call gives one out.
+pub enum Fit {
+    Entire,
+    Start(u32),
+    Close,
+}

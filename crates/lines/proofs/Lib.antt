@@ -1,0 +1,2 @@
+pub mod AddedLaws
+pub mod DecimalLaws

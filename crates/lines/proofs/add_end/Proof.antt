@@ -1,0 +1,20 @@
+-- `add_end` meets its contract: its parts, one after the other. Assumes nothing.
+use borrow.Author.Needs.{needs}
+use Rattle.lines.specs.Text.{endLine}
+use Rattle.lines.proofs.AddedLaws.{added-then}
+use Rattle.lines.proofs.add_end.Statement.{statement}
+use Rattle.lines.proofs.add_end.Tie as tie
+
+pub add-end-spec : {M : Type 1} → statement M
+unfolding endLine
+add-end-spec =
+    tie.close
+    (tie.spec
+    (λ c. search needs)
+    (λ c κs. search needs)
+    (λ c κs. search needs)
+    (λ c κs. search needs)
+    (λ c. search needs)
+    (λ c κs. search needs)
+    (λ c. search needs)
+    (λ c. added-then (c .before .before .before .before .before .before .before .before .before .before .before .before .before .before .before .add .ensures) (added-then (c .before .before .before .before .before .before .before .before .before .before .before .add-phase .ensures) (added-then (c .before .before .before .before .before .before .before .add-field .ensures) (c .before .before .add2 .ensures)))))

@@ -1,0 +1,17 @@
+-- `add_field` meets its contract: a space, then the number. Assumes nothing.
+use borrow.Author.Needs.{needs}
+use Rattle.lines.specs.Text.{field}
+use Rattle.lines.proofs.AddedLaws.{added-then}
+use Rattle.lines.proofs.add_field.Statement.{statement}
+use Rattle.lines.proofs.add_field.Tie as tie
+
+pub add-field-spec : {M : Type 1} → statement M
+unfolding field
+add-field-spec =
+    tie.close
+    (tie.spec
+    (λ c. search needs)
+    (λ c κs. search needs)
+    (λ c κs. search needs)
+    (λ c. search needs)
+    (λ c. added-then (c .before .before .before .before .before .before .add .ensures) (c .before .before .add-number .ensures)))

@@ -1,0 +1,19 @@
+-- `add_row` meets its contract: its parts, one after the other. Assumes nothing.
+use borrow.Author.Needs.{needs}
+use Rattle.lines.specs.Text.{rowLine}
+use Rattle.lines.proofs.AddedLaws.{added-then}
+use Rattle.lines.proofs.add_row.Statement.{statement}
+use Rattle.lines.proofs.add_row.Tie as tie
+
+pub add-row-spec : {M : Type 1} → statement M
+unfolding rowLine
+add-row-spec =
+    tie.close
+    (tie.spec
+    (λ c κs. search needs)
+    (λ c κs. search needs)
+    (λ c κs. search needs)
+    (λ c. search needs)
+    (λ c κs. search needs)
+    (λ c. search needs)
+    (λ c. added-then (c .before .before .before .before .before .before .before .before .before .before .before .before .before .before .before .add-kind .ensures) (added-then (c .before .before .before .before .before .before .before .before .before .before .before .add-field .ensures) (added-then (c .before .before .before .before .before .before .before .add-field2 .ensures) (c .before .before .add .ensures)))))

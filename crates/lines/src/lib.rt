@@ -1,0 +1,133 @@
+// The lines that are printed, added to a text one after the other. Each function answers where what it added ends.
+ghost use Prim.Native.Nat.{_+_, _*_, _≤_};
+ghost use lib.ListN.{length};
+ghost use Rattle.lines.specs.Added.{Added};
+ghost use Rattle.lines.specs.Text.{decimal, kindName, phaseName, field, groupLine, rowLine, rowLines, groupLines, refusalLine, endLine};
+use group::Phase;
+use numbers::bytes::put_bytes;
+
+// Bytes as they are.
+fn add(text: &mut [u8], at: usize, word: &[u8]) -> usize
+    requires { ⌜ at + length (now word) ≤ length (now text) ⌝ }
+    ensures { λ r. ⌜ Added (length (now (word .entry))) (now (text .entry)) at (now (word .entry)) (now (text .exit)) r ⌝ }
+{
+    put_bytes(text, at, word);
+    at + word.len()
+}
+
+// A number in decimal.
+fn add_number(text: &mut [u8], at: usize, n: u32) -> usize
+    requires { ⌜ at + 10 ≤ length (now text) ⌝ }
+    ensures { λ r. ⌜ Added 10 (now (text .entry)) at (decimal n) (now (text .exit)) r ⌝ }
+{
+    let mut digits = [0u8; 20];
+    let k = io::decimal(n as u64, &mut digits);
+    add(text, at, &digits[..k])
+}
+
+// A space and a number.
+fn add_field(text: &mut [u8], at: usize, n: u32) -> usize
+    requires { ⌜ at + 11 ≤ length (now text) ⌝ }
+    ensures { λ r. ⌜ Added 11 (now (text .entry)) at (field n) (now (text .exit)) r ⌝ }
+{
+    let next = add(text, at, b" ");
+    add_number(text, next, n)
+}
+
+// The name of a row's kind.
+fn add_kind(text: &mut [u8], at: usize, kind: u32) -> usize
+    requires { ⌜ at + 9 ≤ length (now text) ⌝ }
+    ensures { λ r. ⌜ Added 9 (now (text .entry)) at (kindName kind) (now (text .exit)) r ⌝ }
+{
+    match kind {
+        1 => add(text, at, b"total"),
+        2 => add(text, at, b"separator"),
+        3 => add(text, at, b"middle"),
+        4 => add(text, at, b"start"),
+        5 => add(text, at, b"last"),
+        6 => add(text, at, b"entire"),
+        7 => add(text, at, b"skip"),
+        _ => at,
+    }
+}
+
+// The name of a phase.
+fn add_phase(text: &mut [u8], at: usize, phase: Phase) -> usize
+    requires { ⌜ at + 6 ≤ length (now text) ⌝ }
+    ensures { λ r. ⌜ Added 6 (now (text .entry)) at (phaseName phase) (now (text .exit)) r ⌝ }
+{
+    match phase {
+        Phase::Free => add(text, at, b"free"),
+        Phase::Inside => add(text, at, b"inside"),
+        Phase::Owed => add(text, at, b"owed"),
+    }
+}
+
+// One row's line: name, offset, count.
+fn add_row(text: &mut [u8], at: usize, kind: u32, offset: u32, count: u32) -> usize
+    requires { ⌜ at + 32 ≤ length (now text) ⌝ }
+    ensures { λ r. ⌜ Added 32 (now (text .entry)) at (rowLine kind offset count) (now (text .exit)) r ⌝ }
+{
+    let named = add_kind(text, at, kind);
+    let reached = add_field(text, named, offset);
+    let counted = add_field(text, reached, count);
+    add(text, counted, b"\n")
+}
+
+// The lines of the first n rows.
+fn add_rows(text: &mut [u8], at: usize, n: usize, rows: &[u32]) -> usize
+    requires { ⌜ (at + 32 * n ≤ length (now text)) × (3 * n ≤ length (now rows)) ⌝ }
+    ensures { λ r. ⌜ Added (32 * n) (now (text .entry)) at (rowLines n (now (rows .entry))) (now (text .exit)) r ⌝ }
+{
+    let mut end = at;
+    let mut i = 0;
+    while i < n {
+        end = add_row(text, end, rows[3 * i], rows[3 * i + 1], rows[3 * i + 2]);
+        i += 1;
+    }
+    end
+}
+
+// The line of a group: its number and its entry count.
+fn add_head(text: &mut [u8], at: usize, number: u32, entries: u32) -> usize
+    requires { ⌜ at + 36 ≤ length (now text) ⌝ }
+    ensures { λ r. ⌜ Added 36 (now (text .entry)) at (groupLine number entries) (now (text .exit)) r ⌝ }
+{
+    let word = add(text, at, b"group");
+    let numbered = add_field(text, word, number);
+    let second = add(text, numbered, b" entries");
+    let counted = add_field(text, second, entries);
+    add(text, counted, b"\n")
+}
+
+// All lines of a group.
+pub fn add_group(text: &mut [u8], at: usize, number: u32, entries: u32, rows: &[u32]) -> usize
+    requires { ⌜ (at + (36 + 32 * entries) ≤ length (now text)) × (3 * entries ≤ length (now rows)) ⌝ }
+    ensures { λ r. ⌜ Added (36 + 32 * entries) (now (text .entry)) at (groupLines number entries (now (rows .entry))) (now (text .exit)) r ⌝ }
+{
+    let below = add_head(text, at, number, entries);
+    add_rows(text, below, entries as usize, rows)
+}
+
+// The line of a refusal.
+pub fn add_refusal(text: &mut [u8], at: usize, number: u32, place: u32) -> usize
+    requires { ⌜ at + 33 ≤ length (now text) ⌝ }
+    ensures { λ r. ⌜ Added 33 (now (text .entry)) at (refusalLine number place) (now (text .exit)) r ⌝ }
+{
+    let word = add(text, at, b"refused");
+    let numbered = add_field(text, word, number);
+    let second = add(text, numbered, b" at");
+    let placed = add_field(text, second, place);
+    add(text, placed, b"\n")
+}
+
+// The line that ends a run.
+pub fn add_end(text: &mut [u8], at: usize, phase: Phase, sum: u32) -> usize
+    requires { ⌜ at + 22 ≤ length (now text) ⌝ }
+    ensures { λ r. ⌜ Added 22 (now (text .entry)) at (endLine phase sum) (now (text .exit)) r ⌝ }
+{
+    let word = add(text, at, b"end ");
+    let named = add_phase(text, word, phase);
+    let summed = add_field(text, named, sum);
+    add(text, summed, b"\n")
+}

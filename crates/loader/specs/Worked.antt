@@ -1,0 +1,120 @@
+-- Worked examples of change request 2026-11, each with what is expected written out whole: volumes of figure 46, flags of 18.3.10,
+-- and messages of figures 51 and 52.
+-- Assumes nothing.
+use Prim.Native.Nat.{ℕ}
+use mathlib.Core.List.{List, [], _∷_, _++_}
+use lib.ListN.{replicate}
+use Rattle.loader.specs.Information.{volumeOf, fieldsOf, makeRefusal, readRefusal, answerOf, told}
+use Rattle.loader.specs.Flags.{alertOf, makeAlertCall, readAlertCall, alertTold}
+use Rattle.loader.specs.Search.{findCall, radioTold}
+
+-- What a call leaves and what it tells.
+pub record Shown : Type 0 where
+  pub bytes : List ℕ
+  pub told : List ℕ
+
+abbrev pub shown : List ℕ → List ℕ → Shown
+shown bytes told = record { bytes = bytes; told = told }
+
+-- The six numbers of an answer: accepted, with an outcome; refused.
+abbrev pub accepted : ℕ → List ℕ
+accepted outcome = 0 ∷ 0 ∷ outcome ∷ 0 ∷ 0 ∷ 0 ∷ []
+
+abbrev pub refused : ℕ → List ℕ
+refused number = number ∷ 0 ∷ 0 ∷ 0 ∷ 0 ∷ 0 ∷ []
+
+-- Fields: partitions 1, 2 and 3, a map of 32 bytes.
+abbrev pub fields : ℕ → ℕ → List ℕ
+fields thickness flags = 1 ∷ 2 ∷ thickness ∷ flags ∷ 3 ∷ replicate 32 0xA5
+
+-- Volumes of them: 72 bytes, the first and the last as said.
+abbrev pub volume : ℕ → ℕ → ℕ → ℕ → List ℕ
+volume first thickness flags last =
+    (first ∷ 0 ∷ 0 ∷ 1 ∷ 2 ∷ thickness ∷ flags ∷ 3 ∷ replicate 32 0xA5) ++ replicate 31 0 ++ (last ∷ [])
+
+unfoldable pub makes : List ℕ → Shown
+makes lent = shown (volumeOf lent) (told (answerOf (makeRefusal lent 72) lent))
+
+unfoldable pub reads : List ℕ → Shown
+reads lent = shown (fieldsOf lent) (told (answerOf (readRefusal lent 37) (fieldsOf lent)))
+
+-- Both types, bits 1 to 4 of the flags all clear, bit 4 set, and all set.
+abbrev pub volumes : List Shown
+volumes =
+    makes (fields 0x2E 0x10) ∷ reads (volume 0 0x2E 0x10 0)
+    ∷ makes (fields 0x41 0x18) ∷ reads (volume 0 0x41 0x18 0)
+    ∷ makes (fields 0x7F 0x1F) ∷ reads (volume 0 0x7F 0x1F 0)
+    ∷ []
+
+abbrev pub volumesExpected : List Shown
+volumesExpected =
+    shown (volume 0 0x2E 0x10 0) (accepted 0) ∷ shown (fields 0x2E 0x10) (accepted 0)
+    ∷ shown (volume 0 0x41 0x18 0) (accepted 1) ∷ shown (fields 0x41 0x18) (accepted 1)
+    ∷ shown (volume 0 0x7F 0x1F 0) (accepted 1) ∷ shown (fields 0x7F 0x1F) (accepted 1)
+    ∷ []
+
+-- What is refused: lengths; reserved bytes; thickness 10 and 11; flags with bit 5 clear, with bits 6, 7 and 8 set; of several the first.
+abbrev pub refusals : List (List ℕ)
+refusals =
+    makes (1 ∷ fields 0x2E 0x10) .told ∷ reads (1 ∷ volume 0 0x2E 0x10 0) .told
+    ∷ reads (volume 1 0x2E 0x10 0) .told ∷ reads (volume 0 0x2E 0x10 1) .told
+    ∷ makes (fields 0x80 0x10) .told ∷ reads (volume 0 0xC0 0x10 0) .told
+    ∷ makes (fields 0x2E 0x0F) .told ∷ reads (volume 0 0x2E 0x30 0) .told
+    ∷ reads (volume 0 0x2E 0x50 0) .told ∷ makes (fields 0x2E 0x90) .told
+    ∷ reads (volume 1 0x80 0x00 0) .told ∷ reads (volume 0 0x80 0x00 0) .told
+    ∷ []
+
+abbrev pub refusalsExpected : List (List ℕ)
+refusalsExpected =
+    refused 60 ∷ refused 60
+    ∷ refused 61 ∷ refused 61
+    ∷ refused 62 ∷ refused 62
+    ∷ refused 63 ∷ refused 63
+    ∷ refused 63 ∷ refused 63
+    ∷ refused 61 ∷ refused 62
+    ∷ []
+
+-- No flag, flag 1, flag 64, flags 12 and 56, all flags; seven bytes.
+abbrev pub alerts : List (List ℕ)
+alerts =
+    alertTold (readAlertCall (replicate 8 0))
+    ∷ alertTold (readAlertCall (0x80 ∷ replicate 7 0))
+    ∷ alertTold (readAlertCall (replicate 7 0 ++ (0x01 ∷ [])))
+    ∷ alertTold (readAlertCall (0x00 ∷ 0x10 ∷ 0x00 ∷ 0x00 ∷ 0x00 ∷ 0x00 ∷ 0x01 ∷ 0x00 ∷ []))
+    ∷ alertTold (makeAlertCall 0xFFFFFFFF 0xFFFFFFFF 8)
+    ∷ alertTold (readAlertCall (replicate 7 0))
+    ∷ alertOf 0x00100000 0x00000100
+    ∷ []
+
+abbrev pub alertsExpected : List (List ℕ)
+alertsExpected =
+    (0 ∷ 0 ∷ 0 ∷ 0 ∷ 0 ∷ 0 ∷ [])
+    ∷ (0 ∷ 0 ∷ 1 ∷ 1 ∷ 0x80000000 ∷ 0 ∷ [])
+    ∷ (0 ∷ 0 ∷ 1 ∷ 64 ∷ 0 ∷ 1 ∷ [])
+    ∷ (0 ∷ 0 ∷ 2 ∷ 12 ∷ 0x00100000 ∷ 0x00000100 ∷ [])
+    ∷ (0 ∷ 0 ∷ 64 ∷ 1 ∷ 0xFFFFFFFF ∷ 0xFFFFFFFF ∷ [])
+    ∷ refused 60
+    ∷ (0x00 ∷ 0x10 ∷ 0x00 ∷ 0x00 ∷ 0x00 ∷ 0x00 ∷ 0x01 ∷ 0x00 ∷ [])
+    ∷ []
+
+-- Figure 51's start with the length byte 04; a longer preamble; one zero byte before the pattern; the pattern at the end; two
+-- messages, the first cut off; nothing.
+abbrev pub messages : List (List ℕ)
+messages =
+    radioTold (findCall (0x00 ∷ 0x00 ∷ 0x00 ∷ 0xB2 ∷ 0x4D ∷ 0x04 ∷ []))
+    ∷ radioTold (findCall (0xFF ∷ replicate 5 0x00 ++ (0xB2 ∷ 0x4D ∷ 0x14 ∷ 0x00 ∷ [])))
+    ∷ radioTold (findCall (0x00 ∷ 0x00 ∷ 0xB2 ∷ 0x4D ∷ 0x04 ∷ []))
+    ∷ radioTold (findCall (0x00 ∷ 0x00 ∷ 0x00 ∷ 0xB2 ∷ 0x4D ∷ []))
+    ∷ radioTold (findCall (0x00 ∷ 0x00 ∷ 0x00 ∷ 0xB2 ∷ 0x00 ∷ 0x00 ∷ 0x00 ∷ 0xB2 ∷ 0x4D ∷ 0x04 ∷ []))
+    ∷ radioTold (findCall [])
+    ∷ []
+
+abbrev pub messagesExpected : List (List ℕ)
+messagesExpected =
+    (0 ∷ 0 ∷ 1 ∷ 2 ∷ 5 ∷ 0 ∷ [])
+    ∷ (0 ∷ 0 ∷ 1 ∷ 5 ∷ 8 ∷ 0 ∷ [])
+    ∷ accepted 0
+    ∷ accepted 0
+    ∷ (0 ∷ 0 ∷ 1 ∷ 6 ∷ 9 ∷ 0 ∷ [])
+    ∷ accepted 0
+    ∷ []

@@ -1,0 +1,63 @@
+// The scan of a group's table, entry by entry from 1.
+mod singles;
+
+ghost use mathlib.Core.Path.{_≡_};
+ghost use Prim.Native.Nat.{_-_, _≤_};
+ghost use Rattle.group.specs.Sizes.{informationLength, lastNumber, entryOffset};
+ghost use Rattle.group.specs.Entries.{entriesBelow};
+ghost use Rattle.group.specs.Coded.{flagTable};
+ghost use Rattle.entry.specs.Scan.{scan};
+ghost use Rattle.entry.specs.Bounds.{Cut, Bounded};
+use entry::Cursor;
+use entry::ScanEnd;
+use entry::rules;
+use group::Group;
+
+// Entry by entry downward from the table's top, stopping at the first that breaks a rule. Separators and entire records
+// between records are passed in stretches.
+pub fn scan_entries(
+    flags: &[[u8; 16]; 16],
+    group: &[u8],
+    size: u32,
+    entries: u32,
+    opening: Cursor,
+) -> ScanEnd
+    requires { ⌜ now flags ≡ flagTable ⌝ }
+    requires { ⌜ (Cut (now group) size entries) × Bounded (entryOffset size entries) opening ⌝ }
+    ensures { λ r. ⌜ r ≡ scan size (entryOffset size entries) (entriesBelow (now (group .entry)) (size - informationLength) entries) 1 opening ⌝ }
+{
+    let limit = size - Group::INFORMATION_LENGTH - Group::ENTRY_LENGTH * entries;
+    let mut left = entries;
+    let mut here = opening;
+    let outcome = loop {
+        let stretch = singles::pass(group, size, entries, left, here);
+        let stand = here.stand;
+        let warned = here.warned;
+        here = Cursor {
+            stand,
+            warned,
+            sum: stretch.sum,
+            reached: stretch.reached,
+        };
+        left = stretch.left;
+        if singles::ends(group, size, entries, left, here) {
+            break ScanEnd::Reached(here);
+        }
+        left = left - 1;
+        let at = limit + Group::ENTRY_LENGTH * left;
+        let entry = group::entries::entry_at(group, at as usize);
+        let flag = entry.flag;
+        let count = entry.count;
+        let code = group::flags::code_in(flags, flag);
+        let follows = rules::follows();
+        let fault = rules::entry_fault(&follows, size, limit, left == 0, here, flag, code, count);
+        if fault != 0 {
+            break ScanEnd::Refused(fault, entries - left, here);
+        }
+        here = rules::advance(here, flag, code, count);
+        if left == 0 {
+            break ScanEnd::Reached(here);
+        }
+    };
+    outcome
+}

@@ -1,0 +1,181 @@
+-- The theorems of change request 2026-08, each with its sentence above it.
+-- Assumes nothing.
+use mathlib.Core.Path.{_≡_, refl, sym, ap, _∙_}
+use mathlib.Core.Logic.{inl, inr}
+use mathlib.Core.Bool.{true, false}
+use mathlib.Core.List.{List}
+use Prim.Native.Nat.{ℕ, _+_, _%_, _<_, _≤_}
+use native.Mathlib.Decide.{decLt}
+use native.Mathlib.Omega.{arith}
+use lib.ListN.{length}
+use Rattle.third.specs.declared.ThirdAnswer.{ThirdAnswer}
+use Rattle.third.specs.declared.ThirdAnswer.the-variants.{Accepted, Refused}
+use Rattle.third.specs.Field.{power, times, product}
+use Rattle.third.specs.Tables.{powerAt, logarithmAt}
+use Rattle.third.specs.Column.{Column, Lawful, lawful, restoredOne, restoredTwo, wrongIn, mended, mendable}
+use Rattle.third.specs.Rows.{column, eachColumn}
+use Rattle.third.specs.Answer.{firstFailing, mendCall, checkCall, Makes, RestoresOne, RestoresTwo, Mends}
+use Rattle.third.specs.Written.{ColumnBytes, Same, SameBut, SameButTwo, Lent, Written, Hopeless, MendTold, CheckTold}
+use Rattle.third.proofs.TableLaws.{power-logarithm}
+use Rattle.third.proofs.FieldLaws.{by-tables}
+use Rattle.third.proofs.Products.{product-power}
+use Rattle.third.proofs.Restoring.{only-two, restored-one, restored-two, lawful-two, bytes-two, two-else}
+use Rattle.third.proofs.Mending.{not-refused, mended-right, no-mending, mended-lawful, mended-bytes, not-hopeless}
+use Rattle.third.proofs.Judging.{is-lawful, is-within, is-beyond, within, of-lawful}
+use Rattle.third.proofs.Failing.{first}
+use Rattle.third.proofs.Answers.{let-through, found, not-found, make-lets, one-lets, two-lets}
+use Rattle.third.proofs.Places.{column-each}
+use Rattle.third.proofs.Buffers.{bytes-of-column, kept-of, accepted-left, refused-left, back, written}
+
+true-false : true ≡ false → ⊥
+true-false e = let z : _≡_ {A = ℕ} 0 1 = cc in omega arith
+
+-- "A table of powers and one of logarithms .. follow these rules throughout": to add logarithms is to multiply, plainly and modulo
+-- the polynomial.
+pub third-product : (a b : ℕ) → a < 256 → b < 256 → (a ≡ 0 → ⊥) → (b ≡ 0 → ⊥)
+    → product a b ≡ powerAt ((logarithmAt a + logarithmAt b) % 255)
+third-product a b ha hb da db =
+    let p = power-logarithm b hb db in
+    ap (product a) (sym (p .0)) ∙ product-power a (logarithmAt b) ha ∙ by-tables (logarithmAt b) a (omega (arith, p .1)) ha da
+
+-- A byte times α^k, as the second rule has it, is the plain product.
+pub third-times : (byte k : ℕ) → byte < 256 → times k byte ≡ product byte (power k)
+third-times byte k h = sym (product-power byte k h)
+
+-- "make the two check rows": every column keeps both rules, and the rows of data stay.
+pub third-made : (n : ℕ) (old : List ℕ) (a : ThirdAnswer) (rows : List ℕ) → Lent n old → Makes n old a rows
+    → (a ≡ Accepted 0) × (Written n rows × ((c i : ℕ) → c < n → i < 44 → column rows n c i ≡ column old n c i))
+third-made n old a rows l m =
+    let e = sym (let-through (Accepted 0) (make-lets (length old) n (kept-of l))) in
+    let g : rows ≡ eachColumn (restoredTwo 44 45) n old = accepted-left _ _ n old a rows m 0 e in (
+      m .answer ∙ e,
+      (
+        rw g (written (restoredTwo 44 45) n old l
+            (λ c lc. let b = bytes-of-column old n c (l .bytes) in
+            (lawful-two 44 45 low high other (column old n c) b, bytes-two 44 45 low high other (column old n c) b))),
+        λ c i lc li.
+            ap (λ (x : List ℕ). column x n c i) g ∙ column-each (restoredTwo 44 45) n old c i lc (omega arith)
+            ∙ two-else 44 45 low high other (column old n c) i (λ e. absurd (omega arith)) (λ e. absurd (omega arith)),
+      ),
+    )
+  where
+    low : 44 < 46
+    low = omega arith
+
+    high : 45 < 46
+    high = omega arith
+
+    other : _≡_ {A = ℕ} 44 45 → ⊥
+    other e = omega arith
+
+-- Written rows w, and rows as they are found.
+module _ (n : ℕ) (w old : List ℕ) (a : ThirdAnswer) (rows : List ℕ) (whole : Written n w) (l : Lent n old) where
+  bytes : (c : ℕ) → ColumnBytes (column old n c)
+  bytes c = bytes-of-column old n c (l .bytes)
+
+  bytes-written : (c : ℕ) → ColumnBytes (column w n c)
+  bytes-written c = bytes-of-column w n c (whole .lent .bytes)
+
+  -- "restoring gives the written rows whatever the named rows held, if the others are as written": one row.
+  pub third-restored-one : (i : ℕ) → i ≤ 45 → ((c : ℕ) → c < n → SameBut i (column old n c) (column w n c))
+      → RestoresOne n i old a rows → (a ≡ Accepted 0) × (rows ≡ w)
+  third-restored-one i h same r =
+      let e = sym (let-through (Accepted 0) (one-lets (length old) n i (kept-of l) h)) in (
+        r .answer ∙ e,
+        accepted-left _ _ n old a rows r 0 e
+            ∙ back (restoredOne i) n old w (whole .lent .long)
+            (λ c lc. restored-one i (column old n c) (column w n c) (omega arith) (whole .law c lc) (same c lc)),
+      )
+
+  -- Two rows.
+  pub third-restored-two : (i j : ℕ) → i ≤ 45 → j ≤ 45 → (i ≡ j → ⊥)
+      → ((c : ℕ) → c < n → SameButTwo i j (column old n c) (column w n c)) → RestoresTwo n i j old a rows → (a ≡ Accepted 0) × (rows ≡ w)
+  third-restored-two i j h k d same r =
+      let e = sym (let-through (Accepted 0) (two-lets (length old) n i j (record { length = kept-of l; first = h; second = k; other = d }))) in (
+        r .answer ∙ e,
+        accepted-left _ _ n old a rows r 0 e
+            ∙ back (restoredTwo i j) n old w (whole .lent .long)
+            (λ c lc. restored-two i j (omega arith) (omega arith) d (column old n c) (column w n c) (bytes c) (bytes-written c) (whole .law c lc) (same c lc)),
+      )
+
+  -- "Mending is right where at most one byte of the column was changed."
+  pub third-mended : ((c : ℕ) → c < n → (j : ℕ) × (j < 46) × SameBut j (column old n c) (column w n c))
+      → Mends n old a rows → (a ≡ Accepted 0) × (rows ≡ w)
+  third-mended close m =
+      let e = none in (
+        m .answer ∙ e,
+        accepted-left _ _ n old a rows m 0 e
+            ∙ back mended n old w (whole .lent .long)
+            (λ c lc. let p = close c lc in
+            mended-right (column old n c) (column w n c) (p .0) (p .1) (bytes c) (bytes-written c) (whole .law c lc) (p .2)),
+      )
+    where
+      all-within : (c : ℕ) → c < n → mendable (column old n c) ≡ true
+      all-within c lc =
+          let p = close c lc in
+          let r = not-refused (column old n c) (column w n c) (p .0) (p .1) (bytes c) (bytes-written c) (whole .law c lc) (p .2) in
+          within (column old n c) (wrongIn (column old n c)) refl (omega arith)
+
+      none : mendCall old n ≡ Accepted 0
+      none = sym (not-found {c = firstFailing mendable old n 0 n} _ _ refl (last (decLt (firstFailing mendable old n 0 n) n))
+          ∙ let-through _ (make-lets (length old) n (kept-of l)))
+        where
+          last : Dec (firstFailing mendable old n 0 n < n) → n ≤ firstFailing mendable old n 0 n
+          last (yes h) = absurd (true-false (sym (all-within _ h) ∙ first mendable old n 0 n .at (omega arith)))
+          last (no h) = omega (arith, h)
+
+-- "43 a column that no single change mends (the whole buffer then stays)": either every column is mended, or its place is a column
+-- that no single change mends, and the first of them.
+pub third-told : (n : ℕ) (old : List ℕ) (a : ThirdAnswer) (rows : List ℕ) → Lent n old → Mends n old a rows
+    → MendTold n old a rows
+third-told n old a rows l m = by (decLt c n)
+  where
+    c : ℕ
+    c = firstFailing mendable old n 0 n
+
+    bytes-at : (d : ℕ) → ColumnBytes (column old n d)
+    bytes-at d = bytes-of-column old n d (l .bytes)
+
+    hopeless : c < n → Hopeless (column old n c)
+    hopeless h = no-mending (column old n c) (bytes-at c) (is-beyond (column old n c) (first mendable old n 0 n .at (omega arith)))
+
+    earlier : (d : ℕ) → d < c → Hopeless (column old n d) → ⊥
+    earlier d ld =
+        not-hopeless (column old n d) (bytes-at d) (is-within (column old n d) (first mendable old n 0 n .before d (omega arith) ld))
+
+    mends : (d : ℕ) → d < n → n ≤ c → Lawful (mended (column old n d)) × ColumnBytes (mended (column old n d))
+    mends d ld h =
+        let p = is-within (column old n d) (first mendable old n 0 n .before d (omega arith) (omega arith)) in
+        (mended-lawful (column old n d) (bytes-at d) (λ e. absurd (omega arith)), mended-bytes (column old n d) (bytes-at d) p)
+
+    by : Dec (c < n) → MendTold n old a rows
+    by (yes h) =
+        let e : mendCall old n ≡ Refused 43 c = sym (found {c = c} _ _ refl h ∙ let-through _ (make-lets (length old) n (kept-of l))) in
+        inr (c, (h, (m .answer ∙ e, (refused-left _ _ n old a rows m 43 c e, (hopeless h, earlier)))))
+    by (no h) =
+        let e : mendCall old n ≡ Accepted 0 = sym (not-found {c = c} _ _ refl (omega (arith, h)) ∙ let-through _ (make-lets (length old) n (kept-of l))) in
+        inl (m .answer ∙ e, rw (accepted-left _ _ n old a rows m 0 e) (written mended n old l (λ d ld. mends d ld (omega (arith, h)))))
+
+-- Checking tells whether every column keeps both rules.
+pub third-checked : (n : ℕ) (rows : List ℕ) (a : ThirdAnswer) → Lent n rows → a ≡ checkCall rows n → CheckTold n rows a
+third-checked n rows a l e = by (decLt c n)
+  where
+    c : ℕ
+    c = firstFailing lawful rows n 0 n
+
+    by : Dec (c < n) → CheckTold n rows a
+    by (yes h) =
+        inr (
+          e ∙ sym (found {c = c} _ _ refl h ∙ let-through _ (make-lets (length rows) n (kept-of l))),
+          (c, (h, λ law. absurd (true-false (sym (of-lawful (column rows n c) law) ∙ first lawful rows n 0 n .at (omega arith))))),
+        )
+    by (no h) =
+        inl (
+          e ∙ sym (not-found {c = c} _ _ refl (omega (arith, h)) ∙ let-through _ (make-lets (length rows) n (kept-of l))),
+          record { lent = l; law = λ d ld. is-lawful (column rows n d) (first lawful rows n 0 n .before d (omega arith) (omega (arith, h))) },
+        )
+
+-- Columns that keep both rules and differ in at most two rows are equal.
+pub third-only-two : (j k : ℕ) → j < 46 → k < 46 → (j ≡ k → ⊥) → (v w : Column) → Lawful v → Lawful w → ColumnBytes v → ColumnBytes w
+    → SameButTwo j k v w → Same v w
+third-only-two j k lj lk d v w lv lw bv bw h = only-two j k lj lk d v w lv lw bv bw h

@@ -1,0 +1,51 @@
+-- `separator` meets its contract: a refusal leaves all as it was, and no refusal leaves what the steps require. Assumes nothing.
+use borrow.Author.Needs.{needs}
+use native.Mathlib.Omega.{arith}
+use mathlib.Core.Path.{_≡_, sym, ap, _∙_}
+use Rattle.laying.specs.Laying.{desk, ready}
+use Rattle.laying.specs.State.{separatorRefusal}
+use Rattle.laying.specs.Calls.{separatorAccepted, separatorCall}
+use Rattle.laying.proofs.Desks.{refuse, accept, clauses}
+use Rattle.writer.proofs.Accepted.{is-ready, Separated, separator-accepted}
+use lib.ListN.{length}
+use Rattle.writer.proofs.separator.Statement.{statement}
+use Rattle.writer.proofs.separator.Tie as tie
+
+-- No refusal was answered.
+none : (c : tie.Else1) → separatorRefusal (c .before .before .before .args .given) (length (c .before .before .before .args .group .now)) (c .before .before .before .args .value) ≡ 0
+none c = sym (c .before .separator-refusal .ensures) ∙ c .if1 .left
+
+known : (c : tie.Else1) → Separated (c .before .before .before .args .given) (c .before .before .before .args .group .now) (c .before .before .before .args .value)
+known c = separator-accepted _ _ _ (none c)
+
+refused : tie.Need-returns
+unfolding separatorCall
+refused c =
+    let a = c .before .before .before .args in
+    let w = desk (a .given) (a .group .now) in
+    let n = c .before .separator-refusal in
+    clauses (refuse _ (n .result) w (separatorAccepted (a .value) (ready (a .warn) w)) (n .ensures) (c .if1 .taken))
+
+separator-requires : tie.Need-separator-requires
+separator-requires c κs = omega (arith, known (c .before .before .before .before .before) .accepted, c .before .before .before .ready .ensures .1 .0)
+
+laid : tie.Need-returns-2
+unfolding separatorCall
+laid c =
+    let a = c .before .before .before .before .before .before .before .before .before .before .before .args in
+    let w = desk (a .given) (a .group .now) in
+    clauses
+    (c .before .before .separator .ensures
+    ∙ ap (separatorAccepted (a .value)) (c .before .before .before .before .before .before .ready .ensures .0)
+    ∙ accept _ w (separatorAccepted (a .value) (ready (a .warn) w)) (none (c .before .before .before .before .before .before .before .before)))
+
+pub separator-spec : {M : Type 1} → statement M
+separator-spec =
+    tie.close
+    (tie.spec
+    (λ c κs. search needs)
+    refused
+    (λ c κs. is-ready (known (c .before) .accepted))
+    separator-requires
+    (λ c. search needs)
+    laid)
