@@ -10,14 +10,15 @@ use lib.Dec.{T, eqb}
 use lib.Bits.{bitAnd}
 use lib.ListN.{length, getD, take, drop, replicate, length-append, length-drop, length-replicate, take-append-drop}
 use lib.Seq.{length-take-le, take-at, drop-at, drop-drop, getD-take, getD-drop}
+use Rattle.answer.specs.Answer.{ifAccepted}
 use Rattle.numbers.specs.Store.{put, zeros}
 use Rattle.numbers.proofs.Stores.{put-put, put-whole, take-rest, zeros-are}
 use Rattle.numbers.proofs.Computed.{below}
 use Rattle.numbers.proofs.Tests.{both, passed}
 use Rattle.loader.specs.declared.VolumeAnswer.{VolumeAnswer}
 use Rattle.loader.specs.declared.VolumeAnswer.the-variants.{TypeA, TypeB, Refused}
-use Rattle.loader.specs.Information.{volumeLength, fieldsLength, lengthAndThickness, flags, volumeOf, fieldsOf, lengthsKept, reservedKept, thickness, flagsKept}
-use Rattle.loader.specs.Information.{byteRefusal, makeRefusal, readRefusal, typeOf, answerOf, left, refusalOf}
+use Rattle.loader.specs.Information.{volumeLength, fieldsLength, lengthAndThickness, flags, volumeOf, fieldsOf, lengthsKept, reservedKept, thickness, flagsKept, told}
+use Rattle.loader.specs.Information.{byteRefusal, makeRefusal, readRefusal, typeOf, answerOf, refusalOf, told}
 
 -- The volume, stored in three pieces.
 module _ (fields old v₁ v₂ v₃ : List ℕ) (long : length old ≡ 72) (wide : length fields ≡ 37) where
@@ -151,15 +152,15 @@ pub accepted-answer : (r refusal : ℕ) (fields : List ℕ) (a : VolumeAnswer) �
 unfolding answerOf
 accepted-answer r refusal fields a e z f = rw (← e, z) f
 
-pub typed-left : (byte : ℕ) (new old : List ℕ) → left (typeOf byte) new old ≡ new
+pub typed-left : (byte : ℕ) (new old : List ℕ) → ifAccepted (told (typeOf byte)) new old ≡ new
 typed-left byte new old = by (eqb (thickness byte) 0)
   where
-    by : (b : Bool) → left (cond b TypeA TypeB) new old ≡ new
+    by : (b : Bool) → ifAccepted (told (cond b TypeA TypeB)) new old ≡ new
     by true = refl
     by false = refl
 
-pub accepted-left : (byte : ℕ) (a : VolumeAnswer) (new old after : List ℕ) → a ≡ typeOf byte → after ≡ new → after ≡ left a new old
-accepted-left byte a new old after e f = f ∙ sym (ap (λ (b : VolumeAnswer). left b new old) e ∙ typed-left byte new old)
+pub accepted-left : (byte : ℕ) (a : VolumeAnswer) (new old after : List ℕ) → a ≡ typeOf byte → after ≡ new → after ≡ ifAccepted (told a) new old
+accepted-left byte a new old after e f = f ∙ sym (ap (λ (b : VolumeAnswer). ifAccepted (told b) new old) e ∙ typed-left byte new old)
 
 -- A call that tells 0 refuses nothing, and fills its slice.
 pub none-refused : (refusal : ℕ) (fields : List ℕ) (a : VolumeAnswer) → a ≡ answerOf refusal fields → refusalOf a ≡ 0 → refusal ≡ 0
@@ -170,11 +171,11 @@ none-refused refusal fields a e z = by (eqb refusal 0) refl (sym (ap refusalOf e
     by true x h = eqb-true refusal 0 x
     by false x h = h
 
-pub filled : (refusal : ℕ) (fields : List ℕ) (a : VolumeAnswer) (new old after : List ℕ) → a ≡ answerOf refusal fields → refusal ≡ 0 → after ≡ left a new old → after ≡ new
+pub filled : (refusal : ℕ) (fields : List ℕ) (a : VolumeAnswer) (new old after : List ℕ) → a ≡ answerOf refusal fields → refusal ≡ 0 → after ≡ ifAccepted (told a) new old → after ≡ new
 unfolding answerOf
 filled refusal fields a new old after e z f =
     let typed : a ≡ typeOf (lengthAndThickness fields) = e ∙ rw z in
-    f ∙ ap (λ (b : VolumeAnswer). left b new old) typed ∙ typed-left (lengthAndThickness fields) new old
+    f ∙ ap (λ (b : VolumeAnswer). ifAccepted (told b) new old) typed ∙ typed-left (lengthAndThickness fields) new old
 
 -- Nothing is refused where all is kept.
 pub make-accepts : (fields : List ℕ) (volume : ℕ) → MakeKept fields volume → makeRefusal fields volume ≡ 0

@@ -3,16 +3,17 @@
 use mathlib.Core.Path.{_≡_, sym, ap, _∙_}
 use mathlib.Core.List.{List}
 use Prim.Native.Nat.{ℕ}
+use Rattle.answer.specs.Answer.{ifAccepted}
 use Rattle.loader.specs.declared.VolumeAnswer.{VolumeAnswer}
 use Rattle.loader.specs.declared.AlertAnswer.{AlertAnswer}
 use Rattle.loader.specs.declared.RadioAnswer.{RadioAnswer}
-use Rattle.loader.specs.Information.{left, Makes, Reads}
-use Rattle.loader.specs.Flags.{alertOf, alertLeft, MakesAlert, readAlertCall}
+use Rattle.loader.specs.Information.{Makes, Reads, told}
+use Rattle.loader.specs.Flags.{alertOf, MakesAlert, readAlertCall, alertTold}
 use Rattle.loader.specs.Search.{findCall}
 
 -- What two equal answers leave in a slice.
-same-left : (a b : VolumeAnswer) (new old x y : List ℕ) → a ≡ b → x ≡ left a new old → y ≡ left b new old → x ≡ y
-same-left a b new old x y e f g = f ∙ ap (λ (c : VolumeAnswer). left c new old) e ∙ sym g
+same-left : (a b : VolumeAnswer) (new old x y : List ℕ) → a ≡ b → x ≡ ifAccepted (told a) new old → y ≡ ifAccepted (told b) new old → x ≡ y
+same-left a b new old x y e f g = f ∙ ap (λ (c : VolumeAnswer). ifAccepted (told c) new old) e ∙ sym g
 
 pub volume-make-settled : (fields old : List ℕ) (a b : VolumeAnswer) (volume volume′ : List ℕ)
     → Makes fields old a volume → Makes fields old b volume′ → (a ≡ b) × (volume ≡ volume′)
@@ -30,7 +31,7 @@ pub alert-make-settled : (high low : ℕ) (old : List ℕ) (a b : AlertAnswer) (
     → MakesAlert high low old a alert → MakesAlert high low old b alert′ → (a ≡ b) × (alert ≡ alert′)
 alert-make-settled high low old a b alert alert′ p q =
     let e : a ≡ b = p .answer ∙ sym (q .answer) in
-    (e, p .alert-left ∙ ap (λ (c : AlertAnswer). alertLeft c (alertOf high low) old) e ∙ sym (q .alert-left))
+    (e, p .alert-left ∙ ap (λ (c : AlertAnswer). ifAccepted (alertTold c) (alertOf high low) old) e ∙ sym (q .alert-left))
 
 pub alert-read-settled : (alert : List ℕ) (a b : AlertAnswer) → a ≡ readAlertCall alert → b ≡ readAlertCall alert → a ≡ b
 alert-read-settled alert a b e f = e ∙ sym f

@@ -8,13 +8,14 @@ use native.Mathlib.Omega.{arith}
 use borrow.Author.Tests.{eq-eqb}
 use lib.Dec.{eqb}
 use lib.ListN.{length}
+use Rattle.answer.specs.Answer.{ifAccepted}
 use Rattle.numbers.specs.Numbers.{numberAt}
 use Rattle.loader.specs.declared.VolumeAnswer.{VolumeAnswer}
 use Rattle.loader.specs.declared.AlertAnswer.{AlertAnswer}
 use Rattle.loader.specs.declared.AlertAnswer.the-variants.{Counted, Refused}
 use Rattle.loader.specs.declared.RadioAnswer.{RadioAnswer}
 use Rattle.loader.specs.Information.{volumeOf, fieldsOf, makeRefusal, readRefusal, refusalOf, Makes, Reads}
-use Rattle.loader.specs.Flags.{raisedCount, lowestRaised, Says, alertOf, countedIn, makeAlertCall, readAlertCall, alertLeft, MakesAlert}
+use Rattle.loader.specs.Flags.{raisedCount, lowestRaised, Says, alertOf, countedIn, makeAlertCall, readAlertCall, MakesAlert, alertTold}
 use Rattle.loader.specs.Search.{findCall, First}
 use Rattle.loader.proofs.InformationLaws.{make-kept, read-kept, none-refused, filled, make-accepts, read-accepts, fields-made, zeros-before, zeros-behind, length-volume, length-fields, volume-again}
 use Rattle.loader.proofs.FlagLaws.{counted-so, high-made, low-made, length-alert}
@@ -71,7 +72,7 @@ pub alert-returned : (high low : ℕ) (old : List ℕ) (a : AlertAnswer) (alert 
 unfolding makeAlertCall readAlertCall
 alert-returned high low old a alert h l long m =
     let told : a ≡ countedIn (alertOf high low) high low = m .answer ∙ rw (eq-eqb (length old) 8 long) in
-    let made : alert ≡ alertOf high low = m .alert-left ∙ ap (λ (b : AlertAnswer). alertLeft b (alertOf high low) old) told in
+    let made : alert ≡ alertOf high low = m .alert-left ∙ ap (λ (b : AlertAnswer). ifAccepted (alertTold b) (alertOf high low) old) told in
     rw (made, eq-eqb (length (alertOf high low)) 8 (length-alert high low), high-made high low h l, low-made high low h l) (sym told)
 
 -- "found exactly when some place has the pattern, and it is the least"

@@ -7,6 +7,9 @@ use mathlib.Core.Bool.{Bool, true, false, cond}
 use lib.Dec.{eqb}
 use lib.ListN.{length, getD}
 use Rattle.numbers.specs.Numbers.{numberAt, bytesOf}
+use Rattle.answer.specs.declared.Told.{Told}
+use Rattle.answer.specs.declared.Told.the-variants as answer
+use Rattle.answer.specs.Answer.{ifAccepted}
 use Rattle.loader.specs.declared.AlertAnswer.{AlertAnswer}
 use Rattle.loader.specs.declared.AlertAnswer.the-variants.{Counted, Refused}
 
@@ -70,17 +73,12 @@ makeAlertCall high low length = cond (eqb length alertLength) (countedIn (alertO
 unfoldable pub readAlertCall : List ℕ → AlertAnswer
 readAlertCall alert = cond (eqb (length alert) alertLength) (countedIn alert (numberAt 4 alert 0) (numberAt 4 alert 4)) (Refused 60)
 
--- The slice after making: filled whole where it is accepted, as it was where it is refused.
-abbrev pub alertLeft : AlertAnswer → List ℕ → List ℕ → List ℕ
-alertLeft (Counted count lowest high low) new old = new
-alertLeft (Refused number) new old = old
+-- What the firmware is told of each case: how many are raised, the lowest, flags 1 to 32, flags 33 to 64.
+abbrev pub alertTold : AlertAnswer → Told
+alertTold (Counted count lowest high low) = answer.Accepted count lowest high low
+alertTold (Refused refusal) = answer.RefusedAt refusal 0
 
 -- Making the flags' bytes: what it answers, and what it leaves in their slice in place of `old`.
 pub record MakesAlert (high low : ℕ) (old : List ℕ) (a : AlertAnswer) (alert : List ℕ) : Type 0 where
   pub answer : a ≡ makeAlertCall high low (length old)
-  pub alert-left : alert ≡ alertLeft a (alertOf high low) old
-
--- The numbers that the firmware sees of each case: refusal, place, how many, the lowest, flags 1 to 32, flags 33 to 64.
-abbrev pub alertTold : AlertAnswer → List ℕ
-alertTold (Counted count lowest high low) = 0 ∷ 0 ∷ count ∷ lowest ∷ high ∷ low ∷ []
-alertTold (Refused number) = number ∷ 0 ∷ 0 ∷ 0 ∷ 0 ∷ 0 ∷ []
+  pub alert-left : alert ≡ ifAccepted (alertTold a) (alertOf high low) old

@@ -7,6 +7,9 @@ use mathlib.Core.Bool.{Bool, cond, not, _&&_}
 use lib.Dec.{eqb, leb}
 use lib.ListN.{length, getD, take, drop, replicate}
 use Rattle.numbers.specs.Store.{zeros}
+use Rattle.answer.specs.declared.Told.{Told}
+use Rattle.answer.specs.declared.Told.the-variants as answer
+use Rattle.answer.specs.Answer.{refusalTold, ifAccepted}
 use Rattle.loader.specs.declared.VolumeAnswer.{VolumeAnswer}
 use Rattle.loader.specs.declared.VolumeAnswer.the-variants.{TypeA, TypeB, Refused}
 
@@ -85,28 +88,22 @@ typeOf byte = cond (eqb (thickness byte) 0) TypeA TypeB
 unfoldable pub answerOf : ℕ → List ℕ → VolumeAnswer
 answerOf refusal fields = cond (eqb refusal 0) (typeOf (lengthAndThickness fields)) (Refused refusal)
 
--- A lent slice after a call: filled whole where it is accepted, as it was where it is refused.
-abbrev pub left : VolumeAnswer → List ℕ → List ℕ → List ℕ
-left TypeA new old = new
-left TypeB new old = new
-left (Refused number) new old = old
+-- What the firmware is told of each case: outcome 0 for Type A, 1 for Type B.
+abbrev pub told : VolumeAnswer → Told
+told TypeA = answer.Accepted 0 0 0 0
+told TypeB = answer.Accepted 1 0 0 0
+told (Refused refusal) = answer.RefusedAt refusal 0
 
 -- Making Volume Information: what it answers, and what it leaves in the volume's slice in place of `old`.
 pub record Makes (fields old : List ℕ) (a : VolumeAnswer) (volume : List ℕ) : Type 0 where
   pub answer : a ≡ answerOf (makeRefusal fields (length old)) fields
-  pub volume-left : volume ≡ left a (volumeOf fields) old
+  pub volume-left : volume ≡ ifAccepted (told a) (volumeOf fields) old
 
 -- Reading Volume Information: what it answers, and what it leaves in the fields' slice in place of `old`.
 pub record Reads (volume old : List ℕ) (a : VolumeAnswer) (fields : List ℕ) : Type 0 where
   pub answer : a ≡ answerOf (readRefusal volume (length old)) (fieldsOf volume)
-  pub fields-left : fields ≡ left a (fieldsOf volume) old
-
--- The numbers that the firmware sees of each case: refusal, place, outcome (0 Type A, 1 Type B) and three zeros.
-abbrev pub told : VolumeAnswer → List ℕ
-told TypeA = 0 ∷ 0 ∷ 0 ∷ 0 ∷ 0 ∷ 0 ∷ []
-told TypeB = 0 ∷ 0 ∷ 1 ∷ 0 ∷ 0 ∷ 0 ∷ []
-told (Refused number) = number ∷ 0 ∷ 0 ∷ 0 ∷ 0 ∷ 0 ∷ []
+  pub fields-left : fields ≡ ifAccepted (told a) (fieldsOf volume) old
 
 -- The refusal that an answer tells, 0 where the call is accepted.
 abbrev pub refusalOf : VolumeAnswer → ℕ
-refusalOf a = getD (told a) 0 0
+refusalOf a = refusalTold (told a)

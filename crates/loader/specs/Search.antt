@@ -6,6 +6,9 @@ use mathlib.Core.List.{List, [], _∷_}
 use mathlib.Core.Bool.{Bool, true, false, cond, _&&_}
 use lib.Dec.{eqb, leb}
 use lib.ListN.{length, getD, take, drop}
+use Rattle.answer.specs.declared.Told.{Told}
+use Rattle.answer.specs.declared.Told.the-variants as answer
+use Rattle.answer.specs.Answer.{accepted}
 use Rattle.loader.specs.declared.RadioAnswer.{RadioAnswer}
 use Rattle.loader.specs.declared.RadioAnswer.the-variants.{Found, Nothing, Refused}
 
@@ -41,12 +44,11 @@ unfoldable pub findCall : List ℕ → RadioAnswer
 findCall received =
     cond (leb (length received) longestReceived) (firstFrom received 0 (length received)) (Refused 60)
 
--- The numbers that the firmware sees of each case: refusal, place, outcome (1 found, 0 none), the pattern's place, the length
--- byte's, and a zero.
-abbrev pub radioTold : RadioAnswer → List ℕ
-radioTold (Found place length-at) = 0 ∷ 0 ∷ 1 ∷ place ∷ length-at ∷ 0 ∷ []
-radioTold Nothing = 0 ∷ 0 ∷ 0 ∷ 0 ∷ 0 ∷ 0 ∷ []
-radioTold (Refused number) = number ∷ 0 ∷ 0 ∷ 0 ∷ 0 ∷ 0 ∷ []
+-- What the firmware is told of each case: outcome 1 with the pattern's place and the length byte's, 0 for none.
+abbrev pub radioTold : RadioAnswer → Told
+radioTold (Found place length-at) = answer.Accepted 1 place length-at 0
+radioTold Nothing = accepted
+radioTold (Refused refusal) = answer.RefusedAt refusal 0
 
 -- 18.7, byte by byte: a message begins with its pattern's first byte at this place.
 pub record MessageAt (received : List ℕ) (place : ℕ) : Type 0 where

@@ -4,6 +4,7 @@
 use Prim.Native.Nat.{ℕ}
 use mathlib.Core.List.{List, [], _∷_, _++_}
 use lib.ListN.{replicate}
+use Rattle.answer.specs.Answer.{numbersTold}
 use Rattle.loader.specs.Information.{volumeOf, fieldsOf, makeRefusal, readRefusal, answerOf, told}
 use Rattle.loader.specs.Flags.{alertOf, makeAlertCall, readAlertCall, alertTold}
 use Rattle.loader.specs.Search.{findCall, radioTold}
@@ -33,10 +34,10 @@ volume first thickness flags last =
     (first ∷ 0 ∷ 0 ∷ 1 ∷ 2 ∷ thickness ∷ flags ∷ 3 ∷ replicate 32 0xA5) ++ replicate 31 0 ++ (last ∷ [])
 
 unfoldable pub makes : List ℕ → Shown
-makes lent = shown (volumeOf lent) (told (answerOf (makeRefusal lent 72) lent))
+makes lent = shown (volumeOf lent) (numbersTold (told (answerOf (makeRefusal lent 72) lent)))
 
 unfoldable pub reads : List ℕ → Shown
-reads lent = shown (fieldsOf lent) (told (answerOf (readRefusal lent 37) (fieldsOf lent)))
+reads lent = shown (fieldsOf lent) (numbersTold (told (answerOf (readRefusal lent 37) (fieldsOf lent))))
 
 -- Both types, bits 1 to 4 of the flags all clear, bit 4 set, and all set.
 abbrev pub volumes : List Shown
@@ -77,12 +78,12 @@ refusalsExpected =
 -- No flag, flag 1, flag 64, flags 12 and 56, all flags; seven bytes.
 abbrev pub alerts : List (List ℕ)
 alerts =
-    alertTold (readAlertCall (replicate 8 0))
-    ∷ alertTold (readAlertCall (0x80 ∷ replicate 7 0))
-    ∷ alertTold (readAlertCall (replicate 7 0 ++ (0x01 ∷ [])))
-    ∷ alertTold (readAlertCall (0x00 ∷ 0x10 ∷ 0x00 ∷ 0x00 ∷ 0x00 ∷ 0x00 ∷ 0x01 ∷ 0x00 ∷ []))
-    ∷ alertTold (makeAlertCall 0xFFFFFFFF 0xFFFFFFFF 8)
-    ∷ alertTold (readAlertCall (replicate 7 0))
+    numbersTold (alertTold (readAlertCall (replicate 8 0)))
+    ∷ numbersTold (alertTold (readAlertCall (0x80 ∷ replicate 7 0)))
+    ∷ numbersTold (alertTold (readAlertCall (replicate 7 0 ++ (0x01 ∷ []))))
+    ∷ numbersTold (alertTold (readAlertCall (0x00 ∷ 0x10 ∷ 0x00 ∷ 0x00 ∷ 0x00 ∷ 0x00 ∷ 0x01 ∷ 0x00 ∷ [])))
+    ∷ numbersTold (alertTold (makeAlertCall 0xFFFFFFFF 0xFFFFFFFF 8))
+    ∷ numbersTold (alertTold (readAlertCall (replicate 7 0)))
     ∷ alertOf 0x00100000 0x00000100
     ∷ []
 
@@ -101,12 +102,12 @@ alertsExpected =
 -- messages, the first cut off; nothing.
 abbrev pub messages : List (List ℕ)
 messages =
-    radioTold (findCall (0x00 ∷ 0x00 ∷ 0x00 ∷ 0xB2 ∷ 0x4D ∷ 0x04 ∷ []))
-    ∷ radioTold (findCall (0xFF ∷ replicate 5 0x00 ++ (0xB2 ∷ 0x4D ∷ 0x14 ∷ 0x00 ∷ [])))
-    ∷ radioTold (findCall (0x00 ∷ 0x00 ∷ 0xB2 ∷ 0x4D ∷ 0x04 ∷ []))
-    ∷ radioTold (findCall (0x00 ∷ 0x00 ∷ 0x00 ∷ 0xB2 ∷ 0x4D ∷ []))
-    ∷ radioTold (findCall (0x00 ∷ 0x00 ∷ 0x00 ∷ 0xB2 ∷ 0x00 ∷ 0x00 ∷ 0x00 ∷ 0xB2 ∷ 0x4D ∷ 0x04 ∷ []))
-    ∷ radioTold (findCall [])
+    numbersTold (radioTold (findCall (0x00 ∷ 0x00 ∷ 0x00 ∷ 0xB2 ∷ 0x4D ∷ 0x04 ∷ [])))
+    ∷ numbersTold (radioTold (findCall (0xFF ∷ replicate 5 0x00 ++ (0xB2 ∷ 0x4D ∷ 0x14 ∷ 0x00 ∷ []))))
+    ∷ numbersTold (radioTold (findCall (0x00 ∷ 0x00 ∷ 0xB2 ∷ 0x4D ∷ 0x04 ∷ [])))
+    ∷ numbersTold (radioTold (findCall (0x00 ∷ 0x00 ∷ 0x00 ∷ 0xB2 ∷ 0x4D ∷ [])))
+    ∷ numbersTold (radioTold (findCall (0x00 ∷ 0x00 ∷ 0x00 ∷ 0xB2 ∷ 0x00 ∷ 0x00 ∷ 0x00 ∷ 0xB2 ∷ 0x4D ∷ 0x04 ∷ [])))
+    ∷ numbersTold (radioTold (findCall []))
     ∷ []
 
 abbrev pub messagesExpected : List (List ℕ)

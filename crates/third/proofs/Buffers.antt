@@ -7,12 +7,13 @@ use native.Mathlib.Nat.{div-add-mod', mod-lt, div-lt-iff-lt-mul}
 use native.Mathlib.Decide.{decLt}
 use native.Mathlib.Omega.{arith}
 use lib.ListN.{length, getD, List·getD-eq-default}
+use Rattle.answer.specs.Answer.{ifAccepted}
 use Rattle.numbers.specs.Numbers.{Bytes}
 use Rattle.third.specs.declared.ThirdAnswer.{ThirdAnswer}
 use Rattle.third.specs.declared.ThirdAnswer.the-variants.{Accepted, Refused}
 use Rattle.third.specs.Column.{Column, Lawful}
 use Rattle.third.specs.Rows.{column, eachColumn}
-use Rattle.third.specs.Answer.{left, Does}
+use Rattle.third.specs.Answer.{Does, told}
 use Rattle.third.specs.Written.{ColumnBytes, Same, Lent, Written}
 use Rattle.third.proofs.Restoring.{lawful-same}
 use Rattle.third.proofs.Answers.{Kept}
@@ -40,10 +41,10 @@ kept-of l = record { some = l .some; long = l .long }
 -- What a call leaves where it is accepted, and where it is refused.
 module _ (called : ThirdAnswer) (f : Column → Column) (n : ℕ) (old : List ℕ) (a : ThirdAnswer) (rows : List ℕ) (d : Does called f n old a rows) where
   pub accepted-left : (outcome : ℕ) → called ≡ Accepted outcome → rows ≡ eachColumn f n old
-  accepted-left outcome e = d .rows-left ∙ ap (λ (x : ThirdAnswer). left x (eachColumn f n old) old) (d .answer ∙ e)
+  accepted-left outcome e = d .rows-left ∙ ap (λ (x : ThirdAnswer). ifAccepted (told x) (eachColumn f n old) old) (d .answer ∙ e)
 
   pub refused-left : (number place : ℕ) → called ≡ Refused number place → rows ≡ old
-  refused-left number place e = d .rows-left ∙ ap (λ (x : ThirdAnswer). left x (eachColumn f n old) old) (d .answer ∙ e)
+  refused-left number place e = d .rows-left ∙ ap (λ (x : ThirdAnswer). ifAccepted (told x) (eachColumn f n old) old) (d .answer ∙ e)
 
 -- The buffer with f done to every column, where f gives the columns of w.
 pub back : (f : Column → Column) (n : ℕ) (old w : List ℕ) → length w ≡ 46 * n

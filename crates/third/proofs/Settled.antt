@@ -3,16 +3,17 @@
 use mathlib.Core.Path.{_≡_, sym, ap, _∙_}
 use mathlib.Core.List.{List}
 use Prim.Native.Nat.{ℕ}
+use Rattle.answer.specs.Answer.{ifAccepted}
 use Rattle.third.specs.declared.ThirdAnswer.{ThirdAnswer}
 use Rattle.third.specs.Column.{Column}
 use Rattle.third.specs.Rows.{eachColumn}
-use Rattle.third.specs.Answer.{left, checkCall, Does, Makes, RestoresOne, RestoresTwo, Mends}
+use Rattle.third.specs.Answer.{checkCall, Does, Makes, RestoresOne, RestoresTwo, Mends, told}
 
 settled : (called : ThirdAnswer) (f : Column → Column) (n : ℕ) (old : List ℕ) (a b : ThirdAnswer) (rows rows′ : List ℕ)
     → Does called f n old a rows → Does called f n old b rows′ → (a ≡ b) × (rows ≡ rows′)
 settled called f n old a b rows rows′ p q =
     let e : a ≡ b = p .answer ∙ sym (q .answer) in
-    (e, p .rows-left ∙ ap (λ (x : ThirdAnswer). left x (eachColumn f n old) old) e ∙ sym (q .rows-left))
+    (e, p .rows-left ∙ ap (λ (x : ThirdAnswer). ifAccepted (told x) (eachColumn f n old) old) e ∙ sym (q .rows-left))
 
 pub make-settled : (n : ℕ) (old : List ℕ) (a b : ThirdAnswer) (rows rows′ : List ℕ) → Makes n old a rows → Makes n old b rows′
     → (a ≡ b) × (rows ≡ rows′)

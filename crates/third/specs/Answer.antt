@@ -6,6 +6,9 @@ use mathlib.Core.List.{List, [], _∷_}
 use Prim.Native.Nat.{ℕ, zero, suc, _*_}
 use lib.Dec.{eqb, leb, ltb}
 use lib.ListN.{length}
+use Rattle.answer.specs.declared.Told.{Told}
+use Rattle.answer.specs.declared.Told.the-variants as answer
+use Rattle.answer.specs.Answer.{ifAccepted}
 use Rattle.third.specs.declared.ThirdAnswer.{ThirdAnswer}
 use Rattle.third.specs.declared.ThirdAnswer.the-variants.{Accepted, Refused}
 use Rattle.third.specs.Column.{Column, lawful, mendable, restoredOne, restoredTwo, mended}
@@ -61,15 +64,15 @@ abbrev pub checkCall : List ℕ → ℕ → ThirdAnswer
 checkCall rows n =
     answerOf (lengthRefusal (length rows) n) (cond (ltb (firstFailing lawful rows n 0 n) n) (Accepted 1) (Accepted 0))
 
--- The buffer after a call: as it was where it is refused ("the whole buffer then stays").
-abbrev pub left : ThirdAnswer → List ℕ → List ℕ → List ℕ
-left (Accepted outcome) new old = new
-left (Refused number place) new old = old
+-- What the firmware is told of each case. Where a call is refused "the whole buffer then stays".
+abbrev pub told : ThirdAnswer → Told
+told (Accepted outcome) = answer.Accepted outcome 0 0 0
+told (Refused refusal place) = answer.RefusedAt refusal place
 
 -- A call that does f to every column: what it answers, and what it leaves in place of `old`.
 pub record Does (called : ThirdAnswer) (f : Column → Column) (n : ℕ) (old : List ℕ) (a : ThirdAnswer) (rows : List ℕ) : Type 0 where
   pub answer : a ≡ called
-  pub rows-left : rows ≡ left a (eachColumn f n old) old
+  pub rows-left : rows ≡ ifAccepted (told a) (eachColumn f n old) old
 
 -- "make the two check rows": rows 44 and 45 restored from the rows of data.
 abbrev pub Makes : ℕ → List ℕ → ThirdAnswer → List ℕ → Type 0
@@ -83,8 +86,3 @@ RestoresTwo n i j old a rows = Does (twoCall (length old) n i j) (restoredTwo i 
 
 abbrev pub Mends : ℕ → List ℕ → ThirdAnswer → List ℕ → Type 0
 Mends n old a rows = Does (mendCall old n) mended n old a rows
-
--- The numbers that the firmware sees of each case: refusal, place, outcome and three zeros.
-abbrev pub told : ThirdAnswer → List ℕ
-told (Accepted outcome) = 0 ∷ 0 ∷ outcome ∷ 0 ∷ 0 ∷ 0 ∷ []
-told (Refused number place) = number ∷ place ∷ 0 ∷ 0 ∷ 0 ∷ 0 ∷ []

@@ -10,6 +10,7 @@ use native.Mathlib.Omega.{arith}
 use borrow.Author.Tests.{eq-eqb, ne-eqb, eqb-true, eqb-false, leb-true}
 use lib.Dec.{eqb, leb}
 use lib.ListN.{length, getD}
+use Rattle.answer.specs.Answer.{refusalTold}
 use Rattle.numbers.specs.Numbers.{between}
 use Rattle.numbers.proofs.Tests.{both, within}
 use Rattle.track.specs.declared.TrackAnswer.{TrackAnswer}
@@ -78,13 +79,13 @@ none-found fault i zero h = refl
 none-found fault i (suc n) h = rw (h i (omega arith)) (none-found fault (suc i) n (λ k less. h k (omega arith)))
 
 -- A refusal's number is never 0: a call that tells 0 is accepted.
-told-none : (fault : ℕ → ℕ) (i n : ℕ) → getD (told (faultFrom fault i n)) 0 0 ≡ 0 → faultFrom fault i n ≡ Accepted
+told-none : (fault : ℕ → ℕ) (i n : ℕ) → refusalTold (told (faultFrom fault i n)) ≡ 0 → faultFrom fault i n ≡ Accepted
 unfolding faultFrom
 told-none fault i zero e = refl
 told-none fault i (suc n) e = by (eqb (fault i) 0) refl (told-none fault (suc i) n) e
   where
-    by : (b : Bool) → eqb (fault i) 0 ≡ b → (getD (told (faultFrom fault (suc i) n)) 0 0 ≡ 0 → faultFrom fault (suc i) n ≡ Accepted)
-        → getD (told (cond b (faultFrom fault (suc i) n) (Refused (fault i) i))) 0 0 ≡ 0 → cond b (faultFrom fault (suc i) n) (Refused (fault i) i) ≡ Accepted
+    by : (b : Bool) → eqb (fault i) 0 ≡ b → (refusalTold (told (faultFrom fault (suc i) n)) ≡ 0 → faultFrom fault (suc i) n ≡ Accepted)
+        → refusalTold (told (cond b (faultFrom fault (suc i) n) (Refused (fault i) i))) ≡ 0 → cond b (faultFrom fault (suc i) n) (Refused (fault i) i) ≡ Accepted
     by true x rest h = rest h
     by false x rest h = absurd (eqb-false (fault i) 0 x h)
 
@@ -182,11 +183,11 @@ module _ (area : ℕ) (packs : List ℕ) (items track numbers : ℕ) where
       by true x true y h =
           record { long = lengths track (length packs) items numbers x; allowed = y; each = λ block less. no-fault (packFault packs) block h less }
 
-  pub make-told : getD (told (makeCall area packs items track numbers)) 0 0 ≡ 0 → makeCall area packs items track numbers ≡ Accepted
+  pub make-told : refusalTold (told (makeCall area packs items track numbers)) ≡ 0 → makeCall area packs items track numbers ≡ Accepted
   unfolding makeCall
   make-told e = by (lengthsKept track (length packs) items numbers) (areaKept area) e
     where
-      by : (l a : Bool) → getD (told (cond (not l) (Refused 30 0) (cond (not a) (Refused 32 0) (faultFrom (packFault packs) 0 16)))) 0 0 ≡ 0
+      by : (l a : Bool) → refusalTold (told (cond (not l) (Refused 30 0) (cond (not a) (Refused 32 0) (faultFrom (packFault packs) 0 16)))) ≡ 0
           → cond (not l) (Refused 30 0) (cond (not a) (Refused 32 0) (faultFrom (packFault packs) 0 16)) ≡ Accepted
       by false a h = absurd (omega arith)
       by true false h = absurd (omega arith)
@@ -223,11 +224,11 @@ module _ (area : ℕ) (track : List ℕ) (packs items numbers : ℕ) where
             each = λ block less. no-fault (λ (b : ℕ). blockFault area b (blockAt track b)) block h less;
           }
 
-  pub read-told : getD (told (readCall area track packs items numbers)) 0 0 ≡ 0 → readCall area track packs items numbers ≡ Accepted
+  pub read-told : refusalTold (told (readCall area track packs items numbers)) ≡ 0 → readCall area track packs items numbers ≡ Accepted
   unfolding readCall
   read-told e = by (lengthsKept (length track) packs items numbers) e
     where
-      by : (l : Bool) → getD (told (cond (not l) (Refused 30 0) (faultFrom (λ (block : ℕ). blockFault area block (blockAt track block)) 0 16))) 0 0 ≡ 0
+      by : (l : Bool) → refusalTold (told (cond (not l) (Refused 30 0) (faultFrom (λ (block : ℕ). blockFault area block (blockAt track block)) 0 16))) ≡ 0
           → cond (not l) (Refused 30 0) (faultFrom (λ (block : ℕ). blockFault area block (blockAt track block)) 0 16) ≡ Accepted
       by false h = absurd (omega arith)
       by true h = told-none (λ (block : ℕ). blockFault area block (blockAt track block)) 0 16 h

@@ -3,12 +3,13 @@
 use mathlib.Core.Path.{_≡_, sym, ap, _∙_}
 use mathlib.Core.List.{List}
 use Prim.Native.Nat.{ℕ}
+use Rattle.answer.specs.Answer.{ifAccepted}
 use Rattle.track.specs.declared.TrackAnswer.{TrackAnswer}
-use Rattle.track.specs.Answer.{left, Makes, Reads}
+use Rattle.track.specs.Answer.{Makes, Reads, told}
 
 -- What two equal answers leave in a slice.
-same-left : (a b : TrackAnswer) (new old x y : List ℕ) → a ≡ b → x ≡ left a new old → y ≡ left b new old → x ≡ y
-same-left a b new old x y e f g = f ∙ ap (λ (c : TrackAnswer). left c new old) e ∙ sym g
+same-left : (a b : TrackAnswer) (new old x y : List ℕ) → a ≡ b → x ≡ ifAccepted (told a) new old → y ≡ ifAccepted (told b) new old → x ≡ y
+same-left a b new old x y e f g = f ∙ ap (λ (c : TrackAnswer). ifAccepted (told c) new old) e ∙ sym g
 
 pub make-settled : (area frame : ℕ) (packs items old old′ : List ℕ) (a b : TrackAnswer) (track track′ numbers numbers′ : List ℕ)
     → Makes area frame packs items old old′ a track numbers → Makes area frame packs items old old′ b track′ numbers′

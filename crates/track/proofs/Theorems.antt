@@ -9,6 +9,7 @@ use borrow.Author.Tests.{eqb-true}
 use lib.Dec.{eqb}
 use lib.ListN.{length, getD, take, drop}
 use lib.Seq.{drop-cons}
+use Rattle.answer.specs.Answer.{ifAccepted}
 use Rattle.numbers.specs.Numbers.{between}
 use Rattle.numbers.proofs.Tests.{both}
 use Rattle.track.specs.declared.TrackAnswer.{TrackAnswer}
@@ -16,7 +17,7 @@ use Rattle.track.specs.declared.TrackAnswer.the-variants.{Accepted}
 use Rattle.track.specs.Sizes.{chunk, inTurn}
 use Rattle.track.specs.Header.{even, areaKept, packOf, packKept, sw1Kept, packIn}
 use Rattle.track.specs.Blocks.{placesIn, dataPartOf, blockOf, trackOf, blockAt, sw1In, sw2In, dataPartIn, packsOf, itemsOf, itemsGivenBack}
-use Rattle.track.specs.Answer.{blockFault, readCall, makeCall, left, Makes, Reads}
+use Rattle.track.specs.Answer.{blockFault, readCall, makeCall, Makes, Reads, told}
 use Rattle.track.proofs.Turns.{turns-same, turns-chunks, chunk-of-turns, length-turns, get-of-turns}
 use Rattle.track.proofs.BlockLaws.{length-places, length-block-at, length-data-part-at, blocks-wide}
 use Rattle.track.proofs.Judged.{MakeKept, ReadKept, make-kept, make-accepts, pack-right, read-kept, read-accepts, pack-is-kept, pack-small}
@@ -132,8 +133,8 @@ module _ (area : ℕ) (track : List ℕ) (packs items numbers : ℕ) (r : ReadKe
       }
 
 -- A slice after an accepted call.
-filled : (a : TrackAnswer) (new old now : List ℕ) → a ≡ Accepted → now ≡ left a new old → now ≡ new
-filled a new old now e f = f ∙ ap (λ (b : TrackAnswer). left b new old) e
+filled : (a : TrackAnswer) (new old now : List ℕ) → a ≡ Accepted → now ≡ ifAccepted (told a) new old → now ≡ new
+filled a new old now e f = f ∙ ap (λ (b : TrackAnswer). ifAccepted (told b) new old) e
 
 -- "Reading gives back what was made": it accepts, and gives back Pack IDs, Item numbers and items, the closes of Pack ID 6 as zeros.
 pub subdata-returned : (area frame : ℕ) (packs items old old′ track numbers : List ℕ) → Makes area frame packs items old old′ Accepted track numbers

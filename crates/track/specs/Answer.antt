@@ -7,6 +7,9 @@ use mathlib.Core.Bool.{Bool, true, cond, not, _&&_}
 use lib.Dec.{eqb}
 use lib.ListN.{length}
 use Rattle.numbers.specs.Store.{zeros}
+use Rattle.answer.specs.declared.Told.{Told}
+use Rattle.answer.specs.declared.Told.the-variants as answer
+use Rattle.answer.specs.Answer.{accepted, ifAccepted}
 use Rattle.track.specs.declared.TrackAnswer.{TrackAnswer}
 use Rattle.track.specs.declared.TrackAnswer.the-variants.{Accepted, Refused}
 use Rattle.track.specs.Sizes.{blockCount, trackLength, packsLength, itemsLength, numbersLength}
@@ -59,25 +62,20 @@ readCall area track packs items numbers =
     cond (not (lengthsKept (length track) packs items numbers)) (Refused 30 0)
     (faultFrom (λ (block : ℕ). blockFault area block (blockAt track block)) 0 blockCount)
 
--- A lent slice after a call: filled whole where it is accepted, as it was where it is refused.
-abbrev pub left : TrackAnswer → List ℕ → List ℕ → List ℕ
-left Accepted new old = new
-left (Refused number place) new old = old
+-- What the firmware is told of each case.
+abbrev pub told : TrackAnswer → Told
+told Accepted = accepted
+told (Refused refusal place) = answer.RefusedAt refusal place
 
 -- Making a track: what it answers, and what it leaves in the track's slice and the numbers' in place of `old` and `old′`.
 pub record Makes (area frame : ℕ) (packs items old old′ : List ℕ) (a : TrackAnswer) (track numbers : List ℕ) : Type 0 where
   pub answer : a ≡ makeCall area packs (length items) (length old) (length old′)
-  pub track-left : track ≡ left a (trackOf area packs items) old
-  pub numbers-left : numbers ≡ left a (numbersOf area frame) old′
+  pub track-left : track ≡ ifAccepted (told a) (trackOf area packs items) old
+  pub numbers-left : numbers ≡ ifAccepted (told a) (numbersOf area frame) old′
 
 -- Reading a track: what it answers, and what it leaves in the slices of the Pack IDs, the items and the numbers.
 pub record Reads (area frame : ℕ) (track old old′ old″ : List ℕ) (a : TrackAnswer) (packs items numbers : List ℕ) : Type 0 where
   pub answer : a ≡ readCall area track (length old) (length old′) (length old″)
-  pub packs-left : packs ≡ left a (packsOf track) old
-  pub items-left : items ≡ left a (itemsOf track) old′
-  pub numbers-left : numbers ≡ left a (numbersOf area frame) old″
-
--- The numbers that the firmware sees of each case: refusal, place and four zeros.
-abbrev pub told : TrackAnswer → List ℕ
-told Accepted = 0 ∷ 0 ∷ 0 ∷ 0 ∷ 0 ∷ 0 ∷ []
-told (Refused number place) = number ∷ place ∷ 0 ∷ 0 ∷ 0 ∷ 0 ∷ []
+  pub packs-left : packs ≡ ifAccepted (told a) (packsOf track) old
+  pub items-left : items ≡ ifAccepted (told a) (itemsOf track) old′
+  pub numbers-left : numbers ≡ ifAccepted (told a) (numbersOf area frame) old″

@@ -4,6 +4,7 @@
 use Prim.Native.Nat.{ℕ, _+_, _*_}
 use mathlib.Core.List.{List, [], _∷_, _++_}
 use lib.ListN.{replicate}
+use Rattle.answer.specs.Answer.{numbersTold}
 use Rattle.track.specs.Sizes.{inTurn}
 use Rattle.track.specs.Blocks.{trackOf, blockAt}
 use Rattle.track.specs.Items.{itemNumber}
@@ -44,8 +45,8 @@ madeOf row = trackOf (row .area) (replicate 8 (row .pack)) (inTurn (λ (block : 
 unfoldable pub shown : Row → Shown
 shown row =
     record {
-      made = told (makeCall (row .area) (replicate 8 (row .pack)) 512 560 256);
-      read = told (readCall (row .area) (madeOf row) 8 512 256);
+      made = numbersTold (told (makeCall (row .area) (replicate 8 (row .pack)) 512 560 256));
+      read = numbersTold (told (readCall (row .area) (madeOf row) 8 512 256));
       bytes = blockAt (madeOf row) (row .block);
       numbers =
           itemNumber (row .area) (row .frame) (4 * row .block)
