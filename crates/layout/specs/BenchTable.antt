@@ -6,6 +6,7 @@ use mathlib.Core.List.{List, [], _∷_, _++_}
 use mathlib.Core.Bool.{false}
 use lib.ListN.{length, replicate}
 use Rattle.group.specs.declared.Phase.the-variants as phase
+use Rattle.answer.specs.Answer.{numbersTold}
 use Rattle.reader.specs.declared.Reader.{Reader}
 use Rattle.reader.specs.declared.ReaderStart.{ReaderStart}
 use Rattle.reader.specs.declared.ReaderStart.the-variants as readerStart
@@ -64,7 +65,7 @@ unfoldable pub readAll : Reader → List Image → List Read
 readAll s [] = []
 readAll s (g ∷ gs) =
     record {
-      told = read.told (answerTo s g);
+      told = numbersTold (read.told (answerTo s g));
       rows = read.rowsLeft (answerTo s g) (read.groupRows s (g .bytes) (g .entries)) (lentRows (g .entries));
     }
     ∷ readAll (read.stateOf (answerTo s g)) gs
