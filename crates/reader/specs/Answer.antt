@@ -1,6 +1,7 @@
 -- Document 01, "Reading" and "Numbers the firmware sees": what a start and a read answer, the state and the rows they leave.
 -- Assumes nothing.
 use Prim.Native.Nat.{ℕ, _+_, _*_, _-_}
+use mathlib.Core.Path.{_≡_}
 use mathlib.Core.List.{List}
 use mathlib.Core.Bool.{Bool, false, cond, not, _&&_}
 use lib.Dec.{eqb, leb}
@@ -103,3 +104,13 @@ rowsLeft a new old = ifAccepted (told a) (put old 0 new) old
 abbrev pub stateOf : ReadAnswer → Reader
 stateOf (answer.Accepted t) = t
 stateOf (answer.Refused s refusal place) = s
+
+-- Rows that are lent as numbers. (Lent as bytes they are stored by `inBytes`.)
+abbrev pub asNumbers : List ℕ → List ℕ
+asNumbers rows = rows
+
+-- Reading a group: what it answers, and the rows that it leaves in place of `old`, which has room for `room` numbers and
+-- stores them in this form.
+pub record Reads (form : List ℕ → List ℕ) (s : Reader) (group : List ℕ) (number n room : ℕ) (old : List ℕ) (a : ReadAnswer) (rows : List ℕ) : Type 0 where
+  pub answer : a ≡ readCall s group number n room
+  pub rows-left : rows ≡ rowsLeft a (form (groupRows s group n)) old
