@@ -32,7 +32,7 @@ pub enum ReadAnswer {
     Accepted(Reader),
     Refused {
         state: Reader,
-        number: u32,
+        refusal: u32,
         place: u32,
     },
 }
@@ -41,9 +41,9 @@ impl Reader {
     pub fn start(size: u32, first: u32) -> ReaderStart
         ensures { λ r. ⌜ r ≡ readerStartCall size first ⌝ }
     {
-        let number = group::state::start_refusal(size, first);
-        if number != 0 {
-            return ReaderStart::Refused(number);
+        let refusal = group::state::start_refusal(size, first);
+        if refusal != 0 {
+            return ReaderStart::Refused(refusal);
         }
         ReaderStart::Started(Reader {
             size,
@@ -95,7 +95,7 @@ impl Reader {
         if refusal != 0 {
             return ReadAnswer::Refused {
                 state: self,
-                number: refusal,
+                refusal,
                 place: 0,
             };
         }
@@ -104,7 +104,7 @@ impl Reader {
         match scan::scan_entries(flags, group, size, entries, opening) {
             ScanEnd::Refused(fault, place, _) => ReadAnswer::Refused {
                 state: self,
-                number: fault,
+                refusal: fault,
                 place,
             },
             ScanEnd::Reached(cursor) => ReadAnswer::Accepted(ends::closing(self, cursor)),
@@ -132,7 +132,7 @@ impl Reader {
             }
             ReadAnswer::Refused {
                 state: _,
-                number: _,
+                refusal: _,
                 place: _,
             } => answer,
         }
@@ -152,7 +152,7 @@ impl Reader {
             }
             ReadAnswer::Refused {
                 state: _,
-                number: _,
+                refusal: _,
                 place: _,
             } => answer,
         }
