@@ -6,6 +6,7 @@ use mathlib.Core.List.{List, [], _∷_, _++_}
 use mathlib.Core.Bool.{false}
 use lib.ListN.{length, replicate}
 use Rattle.group.specs.declared.Phase.the-variants as phase
+use Rattle.answer.specs.Answer.{numbersTold}
 use Rattle.reader.specs.declared.Reader.{Reader}
 use Rattle.reader.specs.declared.ReaderStart.{ReaderStart}
 use Rattle.reader.specs.declared.ReaderStart.the-variants as readerStart
@@ -64,7 +65,7 @@ unfoldable pub readAll : Reader → List Image → List Read
 readAll s [] = []
 readAll s (g ∷ gs) =
     record {
-      told = read.told (answerTo s g);
+      told = numbersTold (read.told (answerTo s g));
       rows = read.rowsLeft (answerTo s g) (read.groupRows s (g .bytes) (g .entries)) (lentRows (g .entries));
     }
     ∷ readAll (read.stateOf (answerTo s g)) gs
@@ -105,10 +106,10 @@ unfoldable pub shownFrom : Given → WriterStart → ReaderStart → Shown
 shownFrom (writing lent cs) (writerStart.Started w) (readerStart.Started s) =
     let d = desk w (replicate size lent) in
     wrote (toldAll lent cs d) (closedAll lent cs d) (deskLeft lent cs d) (readAll s (closedAll lent cs d)) (readTo s (closedAll lent cs d))
-shownFrom (writing lent cs) (writerStart.Started w) (readerStart.Refused number) = notStarted
+shownFrom (writing lent cs) (writerStart.Started w) (readerStart.Refused refusal) = notStarted
 shownFrom (writing lent cs) (writerStart.Refused number) answer = notStarted
 shownFrom (reading run) answer (readerStart.Started s) = readings (readAll s run) (readTo s run)
-shownFrom (reading run) answer (readerStart.Refused number) = notStarted
+shownFrom (reading run) answer (readerStart.Refused refusal) = notStarted
 
 unfoldable pub shown : Given → Shown
 shown given = shownFrom given (write.writerStartCall size first) (read.readerStartCall size first)
@@ -138,15 +139,15 @@ ok = 0 ∷ 0 ∷ 0 ∷ 0 ∷ 0 ∷ 0 ∷ []
 abbrev pub closeOf : ℕ → ℕ → ℕ → List ℕ
 closeOf number entries taken = 0 ∷ 0 ∷ 1 ∷ number ∷ entries ∷ taken ∷ []
 
-abbrev pub refusal : ℕ → ℕ → List ℕ
-refusal number place = number ∷ place ∷ 0 ∷ 0 ∷ 0 ∷ 0 ∷ []
+abbrev pub refusedAt : ℕ → ℕ → List ℕ
+refusedAt refusal place = refusal ∷ place ∷ 0 ∷ 0 ∷ 0 ∷ 0 ∷ []
 
 -- A read that fills these rows, and one that is refused and leaves them all, lent for n entries.
 abbrev pub filling : List ℕ → Read
 filling rows = record { told = ok; rows = rows ++ (rowOther ∷ []) }
 
-abbrev pub refusing : ℕ → ℕ → ℕ → Read
-refusing number place n = record { told = refusal number place; rows = lentRows n }
+abbrev pub refusing : (refusal place n : ℕ) → Read
+refusing refusal place n = record { told = refusedAt refusal place; rows = lentRows n }
 
 -- A writer and a reader that stand free before the group of this number, nothing laid.
 abbrev pub freeDesk : ℕ → ℕ → Desk
