@@ -1,3 +1,2 @@
 pub mod SignedLaws
 pub mod RoomLaws
-pub mod Desks

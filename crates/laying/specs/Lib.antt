@@ -1,6 +1,4 @@
 -- What a reader of this crate must believe, in document 01's order, and the one file that serves only proofs (Bounds).
-pub mod State
 pub mod Room
 pub mod Laying
-pub mod Calls
 pub mod Bounds

@@ -17,27 +17,6 @@ pub struct Writer {
     pub entries: u32,
 }
 
-// A start's answer: the state, or the number of the refusal.
-pub enum WriterStart {
-    Started(Writer),
-    Refused(u32),
-}
-
-// A call's answer. The state stands first in each case, so that it lies at one place whichever it is.
-pub enum WriteAnswer {
-    Finished(Writer),
-    Closed {
-        state: Writer,
-        number: u32,
-        entries: u32,
-        taken: u32,
-    },
-    Refused {
-        state: Writer,
-        number: u32,
-    },
-}
-
 // How a record goes into the room of a free writer: whole, as a start of so many bytes, or not at all. Public since the
 // definitions that the contracts cite name it; no call gives one out.
 pub enum Fit {

@@ -18,13 +18,13 @@ use Rattle.entry.specs.declared.Stand.{Stand}
 use Rattle.entry.specs.declared.Stand.the-variants as stand
 use Rattle.entry.specs.Rules.{mayFollow, standAt, phaseAfter}
 use Rattle.laying.specs.declared.Writer.{Writer}
-use Rattle.laying.specs.declared.WriteAnswer.{WriteAnswer}
-use Rattle.laying.specs.declared.WriteAnswer.the-variants.{Finished, Closed, Refused}
-use Rattle.laying.specs.State.{isInside, endsEmpty}
+use Rattle.writer.specs.declared.WriteAnswer.{WriteAnswer}
+use Rattle.writer.specs.declared.WriteAnswer.the-variants.{Finished, Closed, Refused}
+use Rattle.writer.specs.State.{isInside, endsEmpty}
 use Rattle.laying.specs.Room.{middleLength}
 use Rattle.laying.specs.Laying.{Desk, desk, layEntry, layData, layPart, moved, laySkip, zeroGap, shut, warnState, payOwed, ready}
-use Rattle.laying.specs.Calls.{Call, Done, call, finished, closed, orRefused, recordAccepted, recordCall, separatorAccepted, separatorCall, endCall}
-use Rattle.laying.specs.Calls.Call.{aRecord, aSeparator, anEnd}
+use Rattle.writer.specs.Calls.{Call, Done, call, finished, closed, orRefused, recordAccepted, recordCall, separatorAccepted, separatorCall, endCall}
+use Rattle.writer.specs.Calls.Call.{aRecord, aSeparator, anEnd}
 use Rattle.laying.specs.Bounds.{span}
 use Rattle.writer.proofs.SoundLaws.{Sound}
 use Rattle.writer.proofs.Accepted.{Offered, Separated, Ended, record-accepted, separator-accepted, end-accepted}
@@ -51,7 +51,7 @@ pub record Kept (size first : ℕ) (w : Desk) (run : List Image) (a : Account) :
 
 -- What holds after an answer and the buffer that is left, where `note` makes the account of the answer.
 pub data Said (size first : ℕ) (run : List Image) (note : WriteAnswer → Account) : WriteAnswer → List ℕ → Type 0 where
-  refuses : {s : Writer} {number : ℕ} {g : List ℕ} → Said size first run note (Refused s number) g
+  refuses : {s : Writer} {refusal : ℕ} {g : List ℕ} → Said size first run note (Refused s refusal) g
   finishes : {s : Writer} {g : List ℕ} → Kept size first (desk s g) run (note (Finished s)) → Said size first run note (Finished s) g
   closes : {s : Writer} {number entries taken : ℕ} {g : List ℕ} → s .entries ≡ 0 →
       ((information h : List ℕ) → length information ≡ informationLength → length h ≡ size →
@@ -263,12 +263,12 @@ module _ {first : ℕ} {run : List Image} (a : Account) (warn : Bool) (w : Desk)
   ended p t k (ends-group e) = resized (size-kept warn w p) (shutting p (t .sound) (t .next e) (t .shut) k)
 
 -- A refusal leaves the desk as it came.
-guard : {size first : ℕ} {run : List Image} {note : WriteAnswer → Account} (w : Desk) (number : ℕ) (d : Done) → (number ≡ 0 → After size first run note d) → After size first run note (orRefused number w d)
+guard : {size first : ℕ} {run : List Image} {note : WriteAnswer → Account} (w : Desk) (refusal : ℕ) (d : Done) → (refusal ≡ 0 → After size first run note d) → After size first run note (orRefused refusal w d)
 unfolding orRefused
-guard {size} {first} {run} {note} w number d h = by (eqb number 0) refl
+guard {size} {first} {run} {note} w refusal d h = by (eqb refusal 0) refl
   where
-    by : (b : Bool) → eqb number 0 ≡ b → After size first run note (cond b d (record { answer = Refused (w .state) number; group = w .group }))
-    by true e = h (eqb-true number 0 e)
+    by : (b : Bool) → eqb refusal 0 ≡ b → After size first run note (cond b d (record { answer = Refused (w .state) refusal; group = w .group }))
+    by true e = h (eqb-true refusal 0 e)
     by false e = refuses
 
 -- Each call, whatever it answers.
@@ -283,7 +283,7 @@ after-call a (anEnd warn) w q k = guard w _ _ (λ e. ended a warn w (w .state .p
 
 -- A refusal leaves the state and the buffer as they came, whatever was offered.
 pub data AsGiven (w : Desk) : WriteAnswer → List ℕ → Type 0 where
-  given-refused : {number : ℕ} → AsGiven w (Refused (w .state) number) (w .group)
+  given-refused : {refusal : ℕ} → AsGiven w (Refused (w .state) refusal) (w .group)
   given-finished : {s : Writer} {g : List ℕ} → AsGiven w (Finished s) g
   given-closed : {s : Writer} {number entries taken : ℕ} {g : List ℕ} → AsGiven w (Closed s number entries taken) g
 
@@ -318,11 +318,11 @@ unfolding finished closed
 given-end w (ends-nothing e) = given-finished
 given-end w (ends-group e) = given-closed
 
-given-guard : (w : Desk) (number : ℕ) (d : Done) → Given w d → Given w (orRefused number w d)
+given-guard : (w : Desk) (refusal : ℕ) (d : Done) → Given w d → Given w (orRefused refusal w d)
 unfolding orRefused
-given-guard w number d h = by (eqb number 0)
+given-guard w refusal d h = by (eqb refusal 0)
   where
-    by : (b : Bool) → Given w (cond b d (record { answer = Refused (w .state) number; group = w .group }))
+    by : (b : Bool) → Given w (cond b d (record { answer = Refused (w .state) refusal; group = w .group }))
     by true = h
     by false = given-refused
 

@@ -18,11 +18,11 @@ use Rattle.entry.specs.declared.Stand.the-variants as stand
 use Rattle.entry.specs.Rules.{standAt}
 use Rattle.reader.specs.Answer.{fresh}
 use Rattle.laying.specs.declared.Writer.{Writer}
-use Rattle.laying.specs.declared.WriterStart.the-variants as start
-use Rattle.laying.specs.declared.WriteAnswer.{WriteAnswer}
-use Rattle.laying.specs.declared.WriteAnswer.the-variants.{Finished, Closed, Refused}
+use Rattle.writer.specs.declared.WriterStart.the-variants as start
+use Rattle.writer.specs.declared.WriteAnswer.{WriteAnswer}
+use Rattle.writer.specs.declared.WriteAnswer.the-variants.{Finished, Closed, Refused}
 use Rattle.laying.specs.Laying.{Desk, desk}
-use Rattle.laying.specs.Calls.{Call, call, freshState, writerStartCall}
+use Rattle.writer.specs.Calls.{Call, call, freshState, writerStartCall}
 use Rattle.layout.specs.Items.{Piece, grouped}
 use Rattle.layout.specs.Items.Token.{piece}
 use Rattle.layout.specs.Layout.{Image, Run, Lays}
@@ -71,7 +71,7 @@ module _ {size first : ℕ} {run : List Image} {note : WriteAnswer → Account} 
   emptied : {s : Writer} {number entries taken : ℕ} {g : List ℕ} → Said size first run note (Closed s number entries taken) g → s .entries ≡ 0
   emptied (Said.closes e k) = e
 
-kept-given : {size first : ℕ} {w : Desk} {run : List Image} {a : Account} {s : Writer} {number : ℕ} {g : List ℕ} → AsGiven w (Refused s number) g → Kept size first w run a → Kept size first (desk s g) run a
+kept-given : {size first : ℕ} {w : Desk} {run : List Image} {a : Account} {s : Writer} {refusal : ℕ} {g : List ℕ} → AsGiven w (Refused s refusal) g → Kept size first w run a → Kept size first (desk s g) run a
 kept-given AsGiven.given-refused k = k
 
 answered : {size first : ℕ} {w : Desk} {run : List Image} {a : Account} {o : WriteAnswer} (c : Call) → Kept size first w run a → AsAsked c (w .state .phase) a → call c w .answer ≡ o →

@@ -5,21 +5,21 @@ use Prim.Native.Nat.{ℕ, zero, suc, _+_, _*_}
 use mathlib.Core.List.{List, [], _∷_, _++_}
 use mathlib.Core.Bool.{false}
 use lib.ListN.{length, replicate}
-use Rattle.group.specs.declared.Phase.the-variants as phase
 use Rattle.answer.specs.Answer.{numbersTold}
+use Rattle.group.specs.declared.Phase.the-variants as phase
 use Rattle.reader.specs.declared.Reader.{Reader}
 use Rattle.reader.specs.declared.ReaderStart.{ReaderStart}
 use Rattle.reader.specs.declared.ReaderStart.the-variants as readerStart
 use Rattle.reader.specs.declared.ReadAnswer.{ReadAnswer}
 use Rattle.reader.specs.Answer as read
-use Rattle.laying.specs.declared.WriterStart.{WriterStart}
-use Rattle.laying.specs.declared.WriterStart.the-variants as writerStart
-use Rattle.laying.specs.declared.WriteAnswer.{WriteAnswer}
-use Rattle.laying.specs.declared.WriteAnswer.the-variants.{Finished, Closed, Refused}
+use Rattle.writer.specs.declared.WriterStart.{WriterStart}
+use Rattle.writer.specs.declared.WriterStart.the-variants as writerStart
+use Rattle.writer.specs.declared.WriteAnswer.{WriteAnswer}
+use Rattle.writer.specs.declared.WriteAnswer.the-variants.{Finished, Closed, Refused}
 use Rattle.laying.specs.Laying.{Desk, desk}
-use Rattle.laying.specs.Calls as write
-use Rattle.laying.specs.Calls.{Call, call, freshState}
-use Rattle.laying.specs.Calls.Call.{aRecord, aSeparator, anEnd}
+use Rattle.writer.specs.Calls as write
+use Rattle.writer.specs.Calls.{Call, call, freshState}
+use Rattle.writer.specs.Calls.Call.{aRecord, aSeparator, anEnd}
 use Rattle.layout.specs.Layout.{Image}
 
 -- "L = 64, from fresh, number 1"
@@ -78,12 +78,12 @@ readTo s (g ∷ gs) = readTo (read.stateOf (answerTo s g)) gs
 unfoldable pub deskAfter : ℕ → WriteAnswer → List ℕ → Desk
 deskAfter lent (Finished s) group = desk s group
 deskAfter lent (Closed s number entries taken) group = desk s (replicate size lent)
-deskAfter lent (Refused s number) group = desk s group
+deskAfter lent (Refused s refusal) group = desk s group
 
 unfoldable pub closedBy : WriteAnswer → List ℕ → List Image
 closedBy (Finished s) group = []
 closedBy (Closed s number entries taken) group = record { number = number; entries = entries; bytes = group } ∷ []
-closedBy (Refused s number) group = []
+closedBy (Refused s refusal) group = []
 
 -- The calls, one after the other, from a desk: what they tell, the groups that they close, the desk that they leave.
 unfoldable pub next : ℕ → Call → Desk → Desk
@@ -91,7 +91,7 @@ next lent c w = deskAfter lent (call c w .answer) (call c w .group)
 
 unfoldable pub toldAll : ℕ → List Call → Desk → List (List ℕ)
 toldAll lent [] w = []
-toldAll lent (c ∷ cs) w = write.told (call c w .answer) ∷ toldAll lent cs (next lent c w)
+toldAll lent (c ∷ cs) w = numbersTold (write.told (call c w .answer)) ∷ toldAll lent cs (next lent c w)
 
 unfoldable pub closedAll : ℕ → List Call → Desk → List Image
 closedAll lent [] w = []
@@ -107,7 +107,7 @@ shownFrom (writing lent cs) (writerStart.Started w) (readerStart.Started s) =
     let d = desk w (replicate size lent) in
     wrote (toldAll lent cs d) (closedAll lent cs d) (deskLeft lent cs d) (readAll s (closedAll lent cs d)) (readTo s (closedAll lent cs d))
 shownFrom (writing lent cs) (writerStart.Started w) (readerStart.Refused refusal) = notStarted
-shownFrom (writing lent cs) (writerStart.Refused number) answer = notStarted
+shownFrom (writing lent cs) (writerStart.Refused refusal) answer = notStarted
 shownFrom (reading run) answer (readerStart.Started s) = readings (readAll s run) (readTo s run)
 shownFrom (reading run) answer (readerStart.Refused refusal) = notStarted
 

@@ -8,12 +8,12 @@ use Rattle.group.specs.declared.Phase.{Phase}
 use Rattle.group.specs.declared.Phase.the-variants.{Free, Inside, Owed}
 use Rattle.group.specs.Sizes.{informationLength}
 use Rattle.laying.specs.declared.Writer.{Writer}
-use Rattle.laying.specs.declared.WriterStart.the-variants as start
-use Rattle.laying.specs.declared.WriteAnswer.{WriteAnswer}
-use Rattle.laying.specs.declared.WriteAnswer.the-variants.{Finished, Closed, Refused}
+use Rattle.writer.specs.declared.WriterStart.the-variants as start
+use Rattle.writer.specs.declared.WriteAnswer.{WriteAnswer}
+use Rattle.writer.specs.declared.WriteAnswer.the-variants.{Finished, Closed, Refused}
 use Rattle.laying.specs.Laying.{Desk, desk}
-use Rattle.laying.specs.Calls.{Call, call, writerStartCall}
-use Rattle.laying.specs.Calls.Call.{aRecord, aSeparator, anEnd}
+use Rattle.writer.specs.Calls.{Call, call, writerStartCall}
+use Rattle.writer.specs.Calls.Call.{aRecord, aSeparator, anEnd}
 use Rattle.layout.specs.Items.{Item}
 use Rattle.layout.specs.Items.Item.{recordItem, separatorItem}
 use Rattle.layout.specs.Layout.{Image}
@@ -44,13 +44,13 @@ unfoldable pub afterRecord : WriteAnswer → Account → Account
 afterRecord (Finished s) a = record { finished = a .finished ++ (recordItem (a .begun ++ a .asked) ∷ []); begun = []; asked = [] }
 afterRecord (Closed s number entries taken) a =
     record { finished = a .finished; begun = a .begun ++ take taken (a .asked); asked = drop taken (a .asked) }
-afterRecord (Refused s number) a = a
+afterRecord (Refused s refusal) a = a
 
 -- A separator is laid where its call finished: "else skip, close, not laid".
 unfoldable pub afterSeparator : ℕ → WriteAnswer → Account → Account
 afterSeparator value (Finished s) a = record { finished = a .finished ++ (separatorItem value ∷ []); begun = []; asked = [] }
 afterSeparator value (Closed s number entries taken) a = a
-afterSeparator value (Refused s number) a = a
+afterSeparator value (Refused s refusal) a = a
 
 -- The account after an accepted call, made at a phase.
 unfoldable pub noted : Call → Phase → WriteAnswer → Account → Account
@@ -84,5 +84,5 @@ pub data Wrote (size first : ℕ) : Desk → List Image → Account → Account 
       length information ≡ informationLength → length g ≡ size →
       Wrote size first (desk s g) (run ++ (imageOf number entries (call c w .group) information ∷ []))
       (noted c (w .state .phase) (Closed s number entries taken) now) (noted c (w .state .phase) (Closed s number entries taken) now)
-  refused : {w : Desk} {s : Writer} {number : ℕ} {run : List Image} {closed now : Account} (c : Call) → Wrote size first w run closed now →
-      call c w .answer ≡ Refused s number → Wrote size first (desk s (call c w .group)) run closed now
+  refused : {w : Desk} {s : Writer} {refusal : ℕ} {run : List Image} {closed now : Account} (c : Call) → Wrote size first w run closed now →
+      call c w .answer ≡ Refused s refusal → Wrote size first (desk s (call c w .group)) run closed now

@@ -12,7 +12,7 @@ use Rattle.group.specs.Sizes.{longestRecord, lastNumber, recordKept}
 use Rattle.numbers.proofs.Tests.{within, passed}
 use Rattle.group.specs.declared.Phase.the-variants.{Inside}
 use Rattle.laying.specs.declared.Writer.{Writer}
-use Rattle.laying.specs.State.{isFree, isInside, isOwed, writerSound, lengthKept, remainsKept, noneOpenKept, valueKept, offerKept, endRemainsKept, endsEmpty, recordRefusal, separatorRefusal, endRefusal}
+use Rattle.writer.specs.State.{isFree, isInside, isOwed, writerSound, lengthKept, remainsKept, noneOpenKept, valueKept, offerKept, endRemainsKept, endsEmpty, recordRefusal, separatorRefusal, endRefusal}
 use Rattle.laying.specs.Bounds.{Grown, Ready, Opened, span}
 use Rattle.writer.proofs.SoundLaws.{Sound, sound, chosen}
 

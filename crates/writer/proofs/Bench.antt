@@ -10,12 +10,13 @@ use Rattle.numbers.specs.Store.{put}
 use Rattle.numbers.specs.Numbers.{bytesOf}
 use Rattle.group.specs.Entries.{entryBytes}
 use Rattle.group.specs.State.{runSound, startRefusal}
-use Rattle.laying.specs.declared.WriterStart.{WriterStart}
-use Rattle.laying.specs.declared.WriterStart.the-variants.{Started, Refused}
-use Rattle.laying.specs.State.{roomKept, emptyKept, restKept, dataKept, clearKept, spentKept, writerSound, recordRefusal, separatorRefusal, endRefusal}
+use Rattle.writer.specs.declared.WriterStart.{WriterStart}
+use Rattle.writer.specs.declared.WriterStart.the-variants.{Started, Refused}
+use Rattle.answer.specs.Answer.{numbersTold}
+use Rattle.writer.specs.State.{roomKept, emptyKept, restKept, dataKept, clearKept, spentKept, writerSound, recordRefusal, separatorRefusal, endRefusal}
 use Rattle.laying.specs.Room.{room, fitOf}
 use Rattle.laying.specs.Laying.{Desk, desk, layEntry, layData, layPart, moved, laySkip, zeroGap, shut, warnState, payOwed, ready}
-use Rattle.laying.specs.Calls.{Done, finished, closed, orRefused, writerStartCall, byFit, recordFree, middle, last, recordInside, recordAccepted, recordCall, separatorAccepted, separatorCall, endAccepted, endCall, Call, aRecord, aSeparator, anEnd, call, told, stateOf}
+use Rattle.writer.specs.Calls.{Done, finished, closed, orRefused, writerStartCall, byFit, recordFree, middle, last, recordInside, recordAccepted, recordCall, separatorAccepted, separatorCall, endAccepted, endCall, Call, aRecord, aSeparator, anEnd, call, told, stateOf}
 
 -- A case: the byte that a lent group holds all over, the calls, what C is told of each, and the groups that they close.
 pub record Case : Type 0 where
@@ -29,7 +30,7 @@ size = 64
 
 -- Whether an answer's outcome is a close.
 unfoldable pub closes : Done → Bool
-closes d = eqb (getD (told (d .answer)) 2 0) 1
+closes d = eqb (getD (numbersTold (told (d .answer))) 2 0) 1
 
 -- The calls, one after the other, from a desk; after a close another group is lent.
 unfoldable pub play : ℕ → List Call → Desk → List Done
@@ -50,7 +51,7 @@ closedGroups (d ∷ ds) = cond (closes d) (d .group ∷ closedGroups ds) (closed
 unfoldable pub played : Case → Case
 played c =
     let ds = begin (c .lent) (c .calls) (writerStartCall size 1) in
-    record { lent = c .lent; calls = c .calls; answers = map (λ (d : Done). told (d .answer)) ds; groups = closedGroups ds }
+    record { lent = c .lent; calls = c .calls; answers = map (λ (d : Done). numbersTold (told (d .answer))) ds; groups = closedGroups ds }
 
 -- The bytes of a record from its k-th on: each is its place in the record, so that a break shows.
 unfoldable pub from : ℕ → ℕ → List ℕ
@@ -186,7 +187,7 @@ warnings =
 
 -- All that must open for a case to be computed.
 unfoldable opens : Unit {0}
-unfolding put bytesOf entryBytes runSound startRefusal roomKept emptyKept restKept dataKept clearKept spentKept writerSound recordRefusal separatorRefusal endRefusal room fitOf layEntry layData layPart moved laySkip zeroGap shut warnState payOwed ready finished closed orRefused writerStartCall byFit recordFree middle last recordInside recordAccepted recordCall separatorAccepted separatorCall endAccepted endCall call told stateOf size closes play begin closedGroups played from zeros other table ok shutAs offer separator end startGroup cases warnings
+unfolding put bytesOf entryBytes runSound startRefusal roomKept emptyKept restKept dataKept clearKept spentKept writerSound recordRefusal separatorRefusal endRefusal room fitOf layEntry layData layPart moved laySkip zeroGap shut warnState payOwed ready finished closed orRefused writerStartCall byFit recordFree middle last recordInside recordAccepted recordCall separatorAccepted separatorCall endAccepted endCall call stateOf size closes play begin closedGroups played from zeros other table ok shutAs offer separator end startGroup cases warnings
 opens = tt
 
 pub bench : map played cases ≡ cases

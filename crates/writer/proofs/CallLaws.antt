@@ -2,21 +2,23 @@
 -- Assumes nothing.
 use mathlib.Core.Path.{_≡_, refl, sym}
 use mathlib.Core.Bool.{Bool, true, false, cond}
-use mathlib.Core.List.{List, [], _∷_}
+use mathlib.Core.List.{List}
 use Prim.Native.Nat.{ℕ, _+_, _-_, _≤_, _<_}
 use lib.ListN.{length, take}
 use lib.Dec.{leb, ltb}
 use borrow.Author.Tests.{leb-true, leb-false, ltb-true, ltb-false}
+use Rattle.answer.specs.declared.Told.the-variants.{Accepted}
+use Rattle.answer.specs.Answer.{accepted}
 use Rattle.group.specs.declared.Kind.the-variants as kind
 use Rattle.group.specs.declared.Phase.the-variants.{Free, Inside, Owed}
 use Rattle.laying.specs.declared.Fit.{Fit}
 use Rattle.laying.specs.declared.Fit.the-variants as fit
-use Rattle.laying.specs.State.{endsEmpty, recordRefusal, separatorRefusal, endRefusal}
+use Rattle.writer.specs.State.{endsEmpty, recordRefusal, separatorRefusal, endRefusal}
 use Rattle.laying.specs.Room.{room, fitOf, separatorFits, middleLength, lastWithTotal}
 use Rattle.laying.specs.Laying.{Desk, desk, layEntry, layPart, moved, shut, ready}
-use Rattle.laying.specs.Calls.{Done, finished, closed, byFit, recordFree, recordInside, middle, last, recordAccepted, recordCall, separatorAccepted, separatorCall, endAccepted, endCall, told, stateOf}
+use Rattle.writer.specs.Calls.{Done, finished, closed, byFit, recordFree, recordInside, middle, last, recordAccepted, recordCall, separatorAccepted, separatorCall, endAccepted, endCall, told, stateOf}
 use Rattle.laying.specs.Bounds.{Fitted, span}
-use Rattle.laying.proofs.Desks.{accept}
+use Rattle.writer.proofs.Desks.{accept}
 use Rattle.laying.proofs.RoomLaws.{fitted, separator-fits, separator-lacks}
 
 -- "Record of n bytes, free."
@@ -102,16 +104,16 @@ unfolding endCall
 end-accepts warn w e = sym (accept _ w (endAccepted warn w) e)
 
 -- What a finished call and a close tell, and the buffer that each leaves.
-pub finished-told : (w : Desk) → told (finished w .answer) ≡ 0 ∷ 0 ∷ 0 ∷ 0 ∷ 0 ∷ 0 ∷ []
-unfolding finished told
+pub finished-told : (w : Desk) → told (finished w .answer) ≡ accepted
+unfolding finished
 finished-told w = refl
 
 pub finished-desk : (w : Desk) → desk (stateOf (finished w .answer)) (finished w .group) ≡ w
 unfolding finished stateOf
 finished-desk w = refl
 
-pub closed-told : (taken : ℕ) (w : Desk) → told (closed taken w .answer) ≡ 0 ∷ 0 ∷ 1 ∷ w .state .next ∷ (w .state .entries + 1) ∷ taken ∷ []
-unfolding closed told
+pub closed-told : (taken : ℕ) (w : Desk) → told (closed taken w .answer) ≡ Accepted 1 (w .state .next) (w .state .entries + 1) taken
+unfolding closed
 closed-told taken w = refl
 
 pub closed-desk : (taken : ℕ) (w : Desk) → desk (stateOf (closed taken w .answer)) (closed taken w .group) ≡ shut w

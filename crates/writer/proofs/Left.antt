@@ -5,8 +5,9 @@ use mathlib.Core.Bool.{Bool, true, false, true≢false}
 use mathlib.Core.List.{List}
 use Prim.Native.Nat.{ℕ, _+_, _-_, _≤_}
 use native.Mathlib.Omega.{arith}
-use lib.ListN.{length, drop, take, getD, replicate, length-replicate}
+use lib.ListN.{length, drop, take, replicate, length-replicate}
 use lib.Seq.{length-take-le}
+use Rattle.answer.specs.Answer.{refusalTold}
 use Rattle.group.specs.declared.Kind.{Kind}
 use Rattle.group.specs.declared.Kind.the-variants.{Total, Separator, Middle, Start, Last, Entire, Skip}
 use Rattle.group.specs.declared.Phase.{Phase}
@@ -20,9 +21,9 @@ use Rattle.numbers.proofs.Tests.{within, is-within}
 use Rattle.numbers.proofs.Stores.{length-put, drop-put}
 use Rattle.group.proofs.EntryLaws.{length-entry}
 use Rattle.laying.specs.declared.Writer.{Writer}
-use Rattle.laying.specs.State.{isFree, isInside}
+use Rattle.writer.specs.State.{isFree, isInside}
 use Rattle.laying.specs.Laying.{Desk, desk, layEntry, layData, layPart, moved, laySkip, zeroGap, shut, warnState, payOwed, ready}
-use Rattle.laying.specs.Calls.{Done, finished, closed, recordFree, recordAccepted, separatorAccepted, endAccepted, told, stateOf}
+use Rattle.writer.specs.Calls.{Done, finished, closed, recordFree, recordAccepted, separatorAccepted, endAccepted, told, stateOf}
 use Rattle.laying.specs.Bounds.{span}
 use Rattle.writer.proofs.SoundLaws.{Nothing, Sound}
 use Rattle.writer.proofs.Accepted.{Accepted, Offered, Separated, Ended, fits}
@@ -176,12 +177,12 @@ continued-ready {s} {g} {n} warn o e =
 
 -- What an accepted call leaves.
 pub record Left (g : List ℕ) (d : Done) : Type 0 where
-  pub accepted : getD (told (d .answer)) 0 0 ≡ 0
+  pub accepted : refusalTold (told (d .answer)) ≡ 0
   pub sound : Sound (stateOf (d .answer))
   pub stays : Stays g (d .group)
 
 left-finished : {g : List ℕ} (w : Desk) → On g w → Freed (w .state) → 1 ≤ w .state .entries → Left g (finished w)
-unfolding finished told stateOf
+unfolding finished stateOf
 left-finished w t c e =
     record {
       accepted = refl;
@@ -200,7 +201,7 @@ left-finished w t c e =
     }
 
 left-closed : {g : List ℕ} (taken : ℕ) (w : Desk) → On g w → Carried (w .state .phase) (w .state .sum) (w .state .rest) → Left g (closed taken w)
-unfolding closed shut zeroGap laySkip layEntry told stateOf
+unfolding closed shut zeroGap laySkip layEntry stateOf
 left-closed taken w t c =
     let s = w .state in
     let e = entry (flagOf Skip (s .warned)) (s .size - s .filled) in
@@ -254,7 +255,7 @@ left-separator {value} {g} {w} t c (laid h) =
 left-separator {value} {g} {w} t c (not-laid h) = left-closed 0 w t (c .carried)
 
 left-same : {s : Writer} {g : List ℕ} → Ended s g → Left g (finished (desk s g))
-unfolding finished told stateOf
+unfolding finished stateOf
 left-same {s} {g} a = record { accepted = refl; sound = a .sound; stays = stays-same g }
 
 -- The three calls.

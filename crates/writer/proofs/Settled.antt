@@ -5,10 +5,10 @@ use mathlib.Core.Bool.{Bool}
 use mathlib.Core.List.{List}
 use Prim.Native.Nat.{ℕ}
 use Rattle.laying.specs.declared.Writer.{Writer}
-use Rattle.laying.specs.declared.WriterStart.{WriterStart}
-use Rattle.laying.specs.declared.WriteAnswer.{WriteAnswer}
+use Rattle.writer.specs.declared.WriterStart.{WriterStart}
+use Rattle.writer.specs.declared.WriteAnswer.{WriteAnswer}
 use Rattle.laying.specs.Laying.{desk}
-use Rattle.laying.specs.Calls.{Done, writerStartCall, recordCall, separatorCall, endCall}
+use Rattle.writer.specs.Calls.{Done, writerStartCall, recordCall, separatorCall, endCall}
 
 -- The two clauses of a contract: the answer, with the state in it, and every byte of the group.
 abbrev pub Meets : Done → WriteAnswer → List ℕ → Type 0

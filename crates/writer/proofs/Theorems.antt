@@ -6,20 +6,21 @@ use Prim.Native.Nat.{ℕ, _-_}
 use native.Mathlib.Omega.{arith}
 use lib.Dec.{eqb}
 use lib.IntN.{negsuc}
-use lib.ListN.{length, drop, getD}
+use lib.ListN.{length, drop}
 use lib.Signed.{leZ}
 use borrow.Author.Tests.{eqb-true, eqb-false}
+use Rattle.answer.specs.Answer.{refusalTold}
 use Rattle.group.specs.Sizes.{leastSize, standardSize, informationLength, lastNumber}
 use Rattle.group.specs.State.{startRefusal}
 use Rattle.numbers.proofs.Tests.{within}
 use Rattle.group.proofs.StateLaws.{started}
 use Rattle.laying.specs.declared.Writer.{Writer}
-use Rattle.laying.specs.declared.WriterStart.the-variants as start
-use Rattle.laying.specs.declared.WriteAnswer.the-variants.{Refused}
-use Rattle.laying.specs.State.{writerSound}
+use Rattle.writer.specs.declared.WriterStart.the-variants as start
+use Rattle.writer.specs.declared.WriteAnswer.the-variants.{Refused}
+use Rattle.writer.specs.State.{writerSound}
 use Rattle.laying.specs.Room.{room}
 use Rattle.laying.specs.Laying.{Desk}
-use Rattle.laying.specs.Calls.{Done, done, orRefused, freshState, writerStartCall, recordCall, separatorCall, endCall, Call, aRecord, aSeparator, anEnd, refusalOf, call, told, stateOf}
+use Rattle.writer.specs.Calls.{Done, done, orRefused, freshState, writerStartCall, recordCall, separatorCall, endCall, Call, aRecord, aSeparator, anEnd, refusalOf, call, told, stateOf}
 use Rattle.laying.proofs.RoomLaws.{room-least}
 use Rattle.writer.proofs.SoundLaws.{sound, is-sound}
 use Rattle.writer.proofs.Accepted.{fits, record-accepted, separator-accepted, end-accepted}
@@ -45,11 +46,10 @@ outcome (aSeparator value warn) w = either _ w _ (λ e. separator-left value war
 outcome (anEnd warn) w = either _ w _ (λ e. end-left warn (end-accepted (w .state) (w .group) e))
 
 -- "Each call returns the number, 0 if accepted": what is told is the number of the call's chain.
-pub refusal-told : (c : Call) (w : Desk) → getD (told (call c w .answer)) 0 0 ≡ refusalOf c w
-unfolding told
+pub refusal-told : (c : Call) (w : Desk) → refusalTold (told (call c w .answer)) ≡ refusalOf c w
 refusal-told c w = by (outcome c w)
   where
-    by : {d : Done} → Outcome (refusalOf c w) w d → getD (told (d .answer)) 0 0 ≡ refusalOf c w
+    by : {d : Done} → Outcome (refusalOf c w) w d → refusalTold (told (d .answer)) ≡ refusalOf c w
     by (refused h) = refl
     by (accepted e l) = l .accepted ∙ sym e
 
@@ -78,11 +78,10 @@ pub length-stays : (c : Call) (w : Desk) → length (call c w .group) ≡ length
 length-stays c w = stays c w .long
 
 -- "It is sound if ..": an accepted call leaves a sound state.
-pub sound-after : (c : Call) (w : Desk) → getD (told (call c w .answer)) 0 0 ≡ 0 → writerSound (stateOf (call c w .answer)) ≡ true
-unfolding told
+pub sound-after : (c : Call) (w : Desk) → refusalTold (told (call c w .answer)) ≡ 0 → writerSound (stateOf (call c w .answer)) ≡ true
 sound-after c w = by (outcome c w)
   where
-    by : {d : Done} → Outcome (refusalOf c w) w d → getD (told (d .answer)) 0 0 ≡ 0 → writerSound (stateOf (d .answer)) ≡ true
+    by : {d : Done} → Outcome (refusalOf c w) w d → refusalTold (told (d .answer)) ≡ 0 → writerSound (stateOf (d .answer)) ≡ true
     by (refused h) e = absurd (h e)
     by (accepted e l) z = is-sound _ (l .sound)
 

@@ -5,15 +5,39 @@ ghost use lib.ListN.{length};
 ghost use Rattle.group.specs.Sizes.{longestRecord, lastNumber};
 ghost use Rattle.laying.specs.Room.{middleLength};
 ghost use Rattle.laying.specs.Laying.{desk};
-ghost use Rattle.laying.specs.Calls.{done, recordFree, recordInside, middle, last, separatorAccepted};
+ghost use Rattle.writer.specs.Calls.{done, closed, recordFree, recordInside, middle, last, separatorAccepted};
 ghost use Rattle.laying.specs.Bounds.{Roomy, Opened};
+use crate::WriteAnswer;
 use group::Kind;
 use group::Phase;
 use laying::Fit;
-use laying::WriteAnswer;
 use laying::Writer;
 use laying::lay;
 use laying::room;
+use numbers::bytes;
+
+// The skip, zeros in the gap, and the state at the next group.
+pub(crate) fn close(w: Writer, group: &mut [u8], taken: u32) -> WriteAnswer
+    requires { ⌜ Roomy w (now group) ⌝ }
+    requires { ⌜ w .next ≤ lastNumber ⌝ }
+    ensures { λ r. ⌜ done r (now (group .exit)) ≡ closed taken (desk w (now (group .entry))) ⌝ }
+{
+    let v = lay::lay_entry(w, group, Kind::Skip, w.size - w.filled);
+    let from = v.filled as usize;
+    let to = room::entry_offset(v.size, v.entries) as usize;
+    bytes::put_zeros(group, from, to);
+    let mut state = v;
+    state.next = v.next + 1;
+    state.filled = 0;
+    state.entries = 0;
+    state.warned = false;
+    WriteAnswer::Closed {
+        state,
+        number: v.next,
+        entries: v.entries,
+        taken,
+    }
+}
 
 pub(crate) fn record_free(w: Writer, group: &mut [u8], data: &[u8]) -> WriteAnswer
     requires { ⌜ Roomy w (now group) ⌝ }
@@ -31,9 +55,9 @@ pub(crate) fn record_free(w: Writer, group: &mut [u8], data: &[u8]) -> WriteAnsw
             let taken = r as usize;
             let v = lay::lay_part(w, group, Kind::Start, &data[..taken]);
             let m = lay::moved(v, Phase::Inside, r, n - r);
-            lay::close(m, group, r)
+            close(m, group, r)
         }
-        Fit::Close => lay::close(w, group, 0),
+        Fit::Close => close(w, group, 0),
     }
 }
 
@@ -48,7 +72,7 @@ fn record_middle(w: Writer, group: &mut [u8], data: &[u8], most: u32) -> WriteAn
     let taken = most as usize;
     let v = lay::lay_part(w, group, Kind::Middle, &data[..taken]);
     let m = lay::moved(v, Phase::Inside, w.sum + most, n - most);
-    lay::close(m, group, most)
+    close(m, group, most)
 }
 
 // The last part of an open record, with its total where both have room.
@@ -67,7 +91,7 @@ fn record_last(w: Writer, group: &mut [u8], data: &[u8]) -> WriteAnswer
         return WriteAnswer::Finished(m);
     }
     let m = lay::moved(v, Phase::Owed, sum, 0);
-    lay::close(m, group, n)
+    close(m, group, n)
 }
 
 pub(crate) fn record_inside(w: Writer, group: &mut [u8], data: &[u8]) -> WriteAnswer
@@ -93,5 +117,5 @@ pub(crate) fn separator(w: Writer, group: &mut [u8], value: u32) -> WriteAnswer
         let v = lay::lay_entry(w, group, Kind::Separator, value);
         return WriteAnswer::Finished(v);
     }
-    lay::close(w, group, 0)
+    close(w, group, 0)
 }

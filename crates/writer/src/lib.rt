@@ -5,20 +5,39 @@ mod state;
 
 ghost use mathlib.Core.Path.{_≡_};
 ghost use Rattle.laying.specs.Laying.{desk};
-ghost use Rattle.laying.specs.Calls.{writerStartCall, recordCall, separatorCall, endCall};
+ghost use Rattle.writer.specs.Calls.{writerStartCall, recordCall, separatorCall, endCall};
 use group::Phase;
-use laying::WriteAnswer;
 use laying::Writer;
-use laying::WriterStart;
 use laying::lay;
+
+// A start's answer: the state, or the number of the refusal.
+pub enum WriterStart {
+    Started(Writer),
+    Refused(u32),
+}
+
+// A call's answer. The state stands first in each case, so that it lies at one place whichever it is.
+pub enum WriteAnswer {
+    Finished(Writer),
+    Closed {
+        state: Writer,
+        number: u32,
+        entries: u32,
+        taken: u32,
+    },
+    Refused {
+        state: Writer,
+        refusal: u32,
+    },
+}
 
 // A fresh writer: free, with nothing laid.
 pub fn start(size: u32, first: u32) -> WriterStart
     ensures { λ r. ⌜ r ≡ writerStartCall size first ⌝ }
 {
-    let number = group::state::start_refusal(size, first);
-    if number != 0 {
-        return WriterStart::Refused(number);
+    let refusal = group::state::start_refusal(size, first);
+    if refusal != 0 {
+        return WriterStart::Refused(refusal);
     }
     WriterStart::Started(Writer {
         size,
@@ -37,11 +56,11 @@ pub fn record(given: Writer, group: &mut [u8], data: &[u8], warn: bool) -> Write
     ensures answer { λ r. ⌜ r ≡ recordCall (now («data» .entry)) warn (desk given (now (group .entry))) .answer ⌝ }
     ensures group { λ _. ⌜ now (group .exit) ≡ recordCall (now («data» .entry)) warn (desk given (now (group .entry))) .group ⌝ }
 {
-    let number = state::record_refusal(given, group.len(), data.len());
-    if number != 0 {
+    let refusal = state::record_refusal(given, group.len(), data.len());
+    if refusal != 0 {
         return WriteAnswer::Refused {
             state: given,
-            number,
+            refusal,
         };
     }
     let w = lay::ready(given, group, warn);
@@ -57,11 +76,11 @@ pub fn separator(given: Writer, group: &mut [u8], value: u32, warn: bool) -> Wri
     ensures answer { λ r. ⌜ r ≡ separatorCall value warn (desk given (now (group .entry))) .answer ⌝ }
     ensures group { λ _. ⌜ now (group .exit) ≡ separatorCall value warn (desk given (now (group .entry))) .group ⌝ }
 {
-    let number = state::separator_refusal(given, group.len(), value);
-    if number != 0 {
+    let refusal = state::separator_refusal(given, group.len(), value);
+    if refusal != 0 {
         return WriteAnswer::Refused {
             state: given,
-            number,
+            refusal,
         };
     }
     let w = lay::ready(given, group, warn);
@@ -73,16 +92,16 @@ pub fn end(given: Writer, group: &mut [u8], warn: bool) -> WriteAnswer
     ensures answer { λ r. ⌜ r ≡ endCall warn (desk given (now (group .entry))) .answer ⌝ }
     ensures group { λ _. ⌜ now (group .exit) ≡ endCall warn (desk given (now (group .entry))) .group ⌝ }
 {
-    let number = state::end_refusal(given, group.len());
-    if number != 0 {
+    let refusal = state::end_refusal(given, group.len());
+    if refusal != 0 {
         return WriteAnswer::Refused {
             state: given,
-            number,
+            refusal,
         };
     }
     if state::ends_empty(given) {
         return WriteAnswer::Finished(given);
     }
     let w = lay::ready(given, group, warn);
-    lay::close(w, group, 0)
+    calls::close(w, group, 0)
 }

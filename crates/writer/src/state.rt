@@ -1,8 +1,8 @@
 // When a writer's state is sound, and what each call refuses: the tests of document 01, in its order.
 ghost use mathlib.Core.Path.{_≡_};
-ghost use Rattle.laying.specs.State.{isFree, isInside, isOwed, isEmpty, endsEmpty};
-ghost use Rattle.laying.specs.State.{roomKept, emptyKept, restKept, dataKept, clearKept, spentKept, writerSound};
-ghost use Rattle.laying.specs.State.{recordRefusal, separatorRefusal, endRefusal};
+ghost use Rattle.writer.specs.State.{isFree, isInside, isOwed, isEmpty, endsEmpty};
+ghost use Rattle.writer.specs.State.{roomKept, emptyKept, restKept, dataKept, clearKept, spentKept, writerSound};
+ghost use Rattle.writer.specs.State.{recordRefusal, separatorRefusal, endRefusal};
 use group::Group;
 use group::Phase;
 use laying::Writer;

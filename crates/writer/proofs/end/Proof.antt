@@ -3,12 +3,12 @@ use borrow.Author.Needs.{needs}
 use native.Mathlib.Omega.{arith}
 use mathlib.Core.Path.{_≡_, sym, ap, _∙_}
 use Rattle.laying.specs.Laying.{desk, ready}
-use Rattle.laying.specs.State.{endRefusal}
-use Rattle.laying.specs.Calls.{finished, closed, endAccepted, endCall}
-use Rattle.laying.proofs.Desks.{refuse, accept, clauses}
+use Rattle.writer.specs.State.{endRefusal}
+use Rattle.writer.specs.Calls.{finished, closed, endAccepted, endCall}
+use Rattle.writer.proofs.Desks.{refuse, accept, clauses}
 use Rattle.writer.proofs.Accepted.{is-ready, Accepted, end-accepted}
 use lib.ListN.{length}
-use Rattle.laying.specs.Calls.{Done}
+use Rattle.writer.specs.Calls.{Done}
 use Rattle.writer.proofs.end.Statement.{statement}
 use Rattle.writer.proofs.end.Tie as tie
 

@@ -2,10 +2,10 @@
 use borrow.Author.Needs.{needs}
 use native.Mathlib.Omega.{arith}
 use mathlib.Core.Path.{_≡_, refl, sym, ap, _∙_}
-use Rattle.laying.specs.State.{isInside, recordRefusal}
+use Rattle.writer.specs.State.{isInside, recordRefusal}
 use Rattle.laying.specs.Laying.{desk, Desk, ready}
-use Rattle.laying.specs.Calls.{Done, recordFree, recordInside, recordAccepted, recordCall}
-use Rattle.laying.proofs.Desks.{refuse, accept, clauses}
+use Rattle.writer.specs.Calls.{Done, recordFree, recordInside, recordAccepted, recordCall}
+use Rattle.writer.proofs.Desks.{refuse, accept, clauses}
 use Rattle.writer.proofs.Accepted.{is-ready, Offered, record-accepted, opened}
 use Prim.Native.Nat.{ℕ}
 use mathlib.Core.Bool.{true, false, true≢false}

@@ -3,9 +3,9 @@ use borrow.Author.Needs.{needs}
 use native.Mathlib.Omega.{arith}
 use mathlib.Core.Path.{_≡_, sym, ap, _∙_}
 use Rattle.laying.specs.Laying.{desk, ready}
-use Rattle.laying.specs.State.{separatorRefusal}
-use Rattle.laying.specs.Calls.{separatorAccepted, separatorCall}
-use Rattle.laying.proofs.Desks.{refuse, accept, clauses}
+use Rattle.writer.specs.State.{separatorRefusal}
+use Rattle.writer.specs.Calls.{separatorAccepted, separatorCall}
+use Rattle.writer.proofs.Desks.{refuse, accept, clauses}
 use Rattle.writer.proofs.Accepted.{is-ready, Separated, separator-accepted}
 use lib.ListN.{length}
 use Rattle.writer.proofs.separator.Statement.{statement}

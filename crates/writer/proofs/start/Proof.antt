@@ -1,7 +1,7 @@
 -- `start` meets its contract: the number that `start_refusal` answers decides. Assumes nothing.
 use borrow.Author.Needs.{needs}
 use borrow.Author.Tests.{eq-eqb, ne-eqb}
-use Rattle.laying.specs.Calls.{writerStartCall}
+use Rattle.writer.specs.Calls.{writerStartCall}
 use Rattle.writer.proofs.start.Statement.{statement}
 use Rattle.writer.proofs.start.Tie as tie
 

@@ -3,13 +3,13 @@ use borrow.Author.Needs.{needs}
 use mathlib.Core.Path.{_≡_, refl, sym, ap, _∙_}
 use Rattle.laying.specs.Laying.{desk, ready, payOwed, moved, layEntry, warnState}
 use Prim.Native.Nat.{ℕ}
-use mathlib.Core.Bool.{Bool, true≢false}
+use mathlib.Core.Bool.{Bool}
+use native.Mathlib.Omega.{arith}
 use mathlib.Core.List.{List}
 use Rattle.group.specs.declared.Kind.the-variants.{Total}
 use Rattle.group.specs.declared.Phase.{Phase}
-use Rattle.group.specs.declared.Phase.the-variants.{Free}
+use Rattle.group.specs.declared.Phase.the-variants.{Free, Inside, Owed}
 use Rattle.laying.specs.declared.Writer.{Writer}
-use Rattle.laying.specs.State.{isInside}
 use Rattle.laying.specs.Bounds.{Grown}
 use Rattle.laying.proofs.lay.ready.Statement.{statement}
 use Rattle.laying.proofs.lay.ready.Tie as tie
@@ -24,6 +24,9 @@ unowed w g warn none told e =
 same : {v w : Writer} (warn : Bool) → v ≡ warnState warn w → Grown v w 0 0 → (Grown v w 0 0) × (v .sum ≡ w .sum)
 unfolding warnState
 same warn e grown = (grown, ap (λ (s : Writer). s .sum) e)
+
+inside-owed : {p : Phase} → p ≡ Inside → p ≡ Owed → ⊥
+inside-owed i o = let z : _≡_ {A = ℕ} 0 1 = cc in absurd (omega arith)
 
 free : tie.Need-returns
 unfolding payOwed
@@ -51,7 +54,7 @@ owed c =
           (ap (moved Free 0 0) (c .before .before .before .lay-entry .ensures .0)
           ∙ ap (λ (v : Writer). moved Free 0 0 (layEntry Total (v .sum) (desk v g))) (c .before .before .before .before .before .before .before .warn-state .ensures .0)
           ∙ sym (ap (λ (p : Phase). payOwed p (desk (warnState (s .args .warn) w) g)) told)),
-      (search needs, λ i. absurd (true≢false (sym (ap isInside i) ∙ ap isInside told))),
+      (search needs, λ i. absurd (inside-owed i told)),
     )
 
 pub ready-spec : {M : Type 1} → statement M

@@ -4,8 +4,8 @@ use native.Mathlib.Omega.{arith}
 use mathlib.Core.Path.{_≡_, sym, ap, _∙_, subst}
 use Rattle.laying.specs.Room.{room, fitOf}
 use Rattle.laying.proofs.RoomLaws.{fitted}
-use Rattle.laying.specs.Calls.{finished, closed, byFit, recordFree}
-use Rattle.laying.proofs.Desks.{move-on}
+use Rattle.writer.specs.Calls.{finished, closed, byFit, recordFree}
+use Rattle.writer.proofs.Desks.{move-on}
 use lib.Seq.{length-take-le}
 use Prim.Native.Nat.{ℕ, _+_, _-_, _<_}
 use mathlib.Core.List.{List}

@@ -5,8 +5,8 @@ use mathlib.Core.Path.{ap, _∙_}
 use borrow.Author.Tests.{le-leb, lt-leb}
 use Rattle.laying.specs.Room.{lastWithTotal}
 use Rattle.laying.specs.Laying.{layEntry}
-use Rattle.laying.specs.Calls.{finished, closed, last}
-use Rattle.laying.proofs.Desks.{move-on}
+use Rattle.writer.specs.Calls.{finished, closed, last}
+use Rattle.writer.proofs.Desks.{move-on}
 use Prim.Native.Nat.{_+_, _≤_, _<_}
 use lib.ListN.{length}
 use Rattle.group.specs.declared.Kind.the-variants.{Total}

@@ -2,8 +2,8 @@
 use borrow.Author.Needs.{needs}
 use native.Mathlib.Omega.{arith}
 use mathlib.Core.Path.{_≡_, sym, _∙_}
-use Rattle.laying.specs.Calls.{closed, middle}
-use Rattle.laying.proofs.Desks.{move-on}
+use Rattle.writer.specs.Calls.{closed, middle}
+use Rattle.writer.proofs.Desks.{move-on}
 use lib.Seq.{length-take-le}
 use Prim.Native.Nat.{_+_, _-_}
 use lib.ListN.{length, take}

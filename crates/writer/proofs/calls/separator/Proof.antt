@@ -2,7 +2,7 @@
 use borrow.Author.Needs.{needs}
 use native.Mathlib.Omega.{arith}
 use mathlib.Core.Path.{ap}
-use Rattle.laying.specs.Calls.{separatorAccepted, finished}
+use Rattle.writer.specs.Calls.{separatorAccepted, finished}
 use Rattle.laying.proofs.SignedLaws.{le-read}
 use Rattle.writer.proofs.calls.separator.Statement.{statement}
 use Rattle.writer.proofs.calls.separator.Tie as tie

@@ -1,6 +1,6 @@
 -- `clear_kept` meets its contract. Assumes nothing.
 use Rattle.numbers.proofs.Tests.{tests}
-use Rattle.laying.specs.State.{clearKept}
+use Rattle.writer.specs.State.{clearKept}
 use Rattle.writer.proofs.state.clear_kept.Statement.{statement}
 use Rattle.writer.proofs.state.clear_kept.Tie as tie
 

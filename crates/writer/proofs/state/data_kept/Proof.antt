@@ -1,6 +1,6 @@
 -- `data_kept` meets its contract. Assumes nothing.
 use Rattle.numbers.proofs.Tests.{tests}
-use Rattle.laying.specs.State.{dataKept}
+use Rattle.writer.specs.State.{dataKept}
 use Rattle.writer.proofs.state.data_kept.Statement.{statement}
 use Rattle.writer.proofs.state.data_kept.Tie as tie
 

@@ -1,7 +1,7 @@
 -- `empty_kept` meets its contract. Assumes nothing.
 use borrow.Author.Needs.{needs}
 use mathlib.Core.Path.{sym, _∙_}
-use Rattle.laying.specs.State.{emptyKept}
+use Rattle.writer.specs.State.{emptyKept}
 use Rattle.writer.proofs.state.empty_kept.Statement.{statement}
 use Rattle.writer.proofs.state.empty_kept.Tie as tie
 

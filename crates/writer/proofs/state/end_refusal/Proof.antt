@@ -3,7 +3,7 @@ use borrow.Author.Needs.{needs}
 use borrow.Author.Tests.{eq-eqb, ne-eqb, le-leb, lt-leb}
 use Rattle.numbers.proofs.Tests.{fails, holds}
 use mathlib.Core.Path.{sym, _∙_}
-use Rattle.laying.specs.State.{endRefusal}
+use Rattle.writer.specs.State.{endRefusal}
 use Rattle.writer.proofs.state.end_refusal.Statement.{statement}
 use Rattle.writer.proofs.state.end_refusal.Tie as tie
 

@@ -1,7 +1,7 @@
 -- `is_sound` meets its contract: the rules of the definition, in its order. Assumes nothing.
 use borrow.Author.Needs.{needs}
 use Rattle.numbers.proofs.Tests.{fails, holds}
-use Rattle.laying.specs.State.{writerSound}
+use Rattle.writer.specs.State.{writerSound}
 use Rattle.writer.proofs.state.is_sound.Statement.{statement}
 use Rattle.writer.proofs.state.is_sound.Tie as tie
 

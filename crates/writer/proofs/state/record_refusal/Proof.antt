@@ -2,7 +2,7 @@
 use borrow.Author.Needs.{needs}
 use borrow.Author.Tests.{eq-eqb, ne-eqb, le-leb, lt-leb}
 use Rattle.numbers.proofs.Tests.{fails, holds}
-use Rattle.laying.specs.State.{recordRefusal}
+use Rattle.writer.specs.State.{recordRefusal}
 use Rattle.writer.proofs.state.record_refusal.Statement.{statement}
 use Rattle.writer.proofs.state.record_refusal.Tie as tie
 

@@ -2,7 +2,7 @@
 use borrow.Author.Needs.{needs}
 use borrow.Author.Tests.{lt-leb, le-leb}
 use Rattle.numbers.proofs.Tests.{fails, holds}
-use Rattle.laying.specs.State.{restKept}
+use Rattle.writer.specs.State.{restKept}
 use Rattle.writer.proofs.state.rest_kept.Statement.{statement}
 use Rattle.writer.proofs.state.rest_kept.Tie as tie
 

@@ -1,7 +1,7 @@
 -- `room_kept` meets its contract. Assumes nothing.
 use borrow.Author.Needs.{needs}
 use Rattle.numbers.proofs.Tests.{fails, holds}
-use Rattle.laying.specs.State.{roomKept}
+use Rattle.writer.specs.State.{roomKept}
 use Rattle.writer.proofs.state.room_kept.Statement.{statement}
 use Rattle.writer.proofs.state.room_kept.Tie as tie
 

@@ -3,7 +3,7 @@ use borrow.Author.Needs.{needs}
 use borrow.Author.Tests.{eq-eqb, ne-eqb, le-leb, lt-leb}
 use Rattle.numbers.proofs.Tests.{fails, holds}
 use mathlib.Core.Path.{sym, _∙_}
-use Rattle.laying.specs.State.{separatorRefusal}
+use Rattle.writer.specs.State.{separatorRefusal}
 use Rattle.writer.proofs.state.separator_refusal.Statement.{statement}
 use Rattle.writer.proofs.state.separator_refusal.Tie as tie
 

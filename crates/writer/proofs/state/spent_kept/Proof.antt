@@ -1,7 +1,7 @@
 -- `spent_kept` meets its contract. Assumes nothing.
 use borrow.Author.Needs.{needs}
 use borrow.Author.Tests.{eq-eqb, ne-eqb}
-use Rattle.laying.specs.State.{spentKept}
+use Rattle.writer.specs.State.{spentKept}
 use Rattle.writer.proofs.state.spent_kept.Statement.{statement}
 use Rattle.writer.proofs.state.spent_kept.Tie as tie
 

@@ -5,10 +5,10 @@ use mathlib.Core.List.{List}
 use Prim.Native.Nat.{ℕ}
 use borrow.Author.Tests.{ne-eqb, eq-eqb}
 use Rattle.group.specs.declared.Phase.{Phase}
 use Rattle.laying.specs.declared.Writer.{Writer}
-use Rattle.laying.specs.declared.WriteAnswer.the-variants.{Closed, Refused}
+use Rattle.writer.specs.declared.WriteAnswer.the-variants.{Closed, Refused}
 use Rattle.laying.specs.Laying.{Desk, desk, moved, movedState, nextState, layEntry, laySkip, zeroGap, shut}
-use Rattle.laying.specs.Calls.{Done, done, closed, orRefused}
+use Rattle.writer.specs.Calls.{Done, done, closed, orRefused}
 
 -- A state that is moved before a last step f.
 pub move-on : (f : Desk → Done) (p : Phase) (sum rest : ℕ) {m : Writer} (v : Writer) (h : List ℕ) {d : Desk}

@@ -1,24 +1,27 @@
--- Document 01, "Writing": what each call answers and the buffer that it leaves, for every input; and the numbers that C is told.
+-- Document 01, "Writing": what each call answers and the buffer that it leaves, for every input; and what the firmware is told.
 -- Assumes nothing.
 use Prim.Native.Nat.{ℕ, _+_, _-_}
-use mathlib.Core.List.{List, [], _∷_}
+use mathlib.Core.List.{List}
 use mathlib.Core.Bool.{Bool, false, cond}
 use lib.ListN.{length, take}
 use lib.Dec.{eqb, leb, ltb}
+use Rattle.answer.specs.declared.Told.{Told}
+use Rattle.answer.specs.declared.Told.the-variants as answer
+use Rattle.answer.specs.Answer.{accepted}
 use Rattle.group.specs.declared.Kind.the-variants as kind
 use Rattle.group.specs.declared.Phase.{Phase}
 use Rattle.group.specs.declared.Phase.the-variants.{Free, Inside, Owed}
 use Rattle.group.specs.State.{startRefusal}
 use Rattle.laying.specs.declared.Writer.{Writer}
-use Rattle.laying.specs.declared.WriterStart.{WriterStart}
-use Rattle.laying.specs.declared.WriterStart.the-variants as start
-use Rattle.laying.specs.declared.WriteAnswer.{WriteAnswer}
-use Rattle.laying.specs.declared.WriteAnswer.the-variants.{Finished, Closed, Refused}
+use Rattle.writer.specs.declared.WriterStart.{WriterStart}
+use Rattle.writer.specs.declared.WriterStart.the-variants as start
+use Rattle.writer.specs.declared.WriteAnswer.{WriteAnswer}
+use Rattle.writer.specs.declared.WriteAnswer.the-variants.{Finished, Closed, Refused}
 use Rattle.laying.specs.declared.Fit.{Fit}
 use Rattle.laying.specs.declared.Fit.the-variants as fit
-use Rattle.laying.specs.State.{endsEmpty, recordRefusal, separatorRefusal, endRefusal}
+use Rattle.writer.specs.State.{endsEmpty, recordRefusal, separatorRefusal, endRefusal}
 use Rattle.laying.specs.Room.{room, fitOf, separatorFits, middleLength, lastWithTotal}
 use Rattle.laying.specs.Laying.{Desk, layEntry, layPart, moved, shut, ready}
 
 -- A call's answer and the buffer that it leaves.
 pub record Done : Type 0 where
@@ -39,7 +42,7 @@ closed taken w = done (Closed (shut w .state) (w .state .next) (w .state .entrie
 
 -- "A refusal answers the number .. and the state as given; nothing lent changes."
 unfoldable pub orRefused : ℕ → Desk → Done → Done
-orRefused number w a = cond (eqb number 0) a (done (Refused (w .state) number) (w .group))
+orRefused refusal w a = cond (eqb refusal 0) a (done (Refused (w .state) refusal) (w .group))
 
 -- "A writer starts the same way": free, with nothing laid.
 abbrev pub freshState : ℕ → ℕ → Writer
@@ -127,19 +130,19 @@ call (aRecord bytes warn) w = recordCall bytes warn w
 call (aSeparator value warn) w = separatorCall value warn w
 call (anEnd warn) w = endCall warn w
 
--- The six numbers of C's answer slice: refusal, place, outcome, group number, entry count, bytes taken.
-unfoldable pub told : WriteAnswer → List ℕ
-told (Finished s) = 0 ∷ 0 ∷ 0 ∷ 0 ∷ 0 ∷ 0 ∷ []
-told (Closed s number entries taken) = 0 ∷ 0 ∷ 1 ∷ number ∷ entries ∷ taken ∷ []
-told (Refused s number) = number ∷ 0 ∷ 0 ∷ 0 ∷ 0 ∷ 0 ∷ []
+-- What the firmware is told of each case: a close is outcome 1, with the group's number, its entry count and the bytes taken.
+abbrev pub told : WriteAnswer → Told
+told (Finished s) = accepted
+told (Closed s number entries taken) = answer.Accepted 1 number entries taken
+told (Refused s refusal) = answer.RefusedAt refusal 0
 
 -- .. and of a start.
-unfoldable pub startTold : WriterStart → List ℕ
-startTold (start.Started s) = 0 ∷ 0 ∷ 0 ∷ 0 ∷ 0 ∷ 0 ∷ []
-startTold (start.Refused number) = number ∷ 0 ∷ 0 ∷ 0 ∷ 0 ∷ 0 ∷ []
+abbrev pub startTold : WriterStart → Told
+startTold (start.Started s) = accepted
+startTold (start.Refused refusal) = answer.RefusedAt refusal 0
 
 -- The state that an answer gives.
 unfoldable pub stateOf : WriteAnswer → Writer
 stateOf (Finished s) = s
 stateOf (Closed s number entries taken) = s
-stateOf (Refused s number) = s
+stateOf (Refused s refusal) = s

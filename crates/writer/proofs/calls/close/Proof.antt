@@ -1,9 +1,9 @@
 -- `close` meets its contract: the skip, the gap, and the state at the next group. Assumes nothing.
 use borrow.Author.Needs.{needs}
 use Rattle.laying.specs.Laying.{desk, zeroGap, laySkip}
-use Rattle.laying.proofs.Desks.{close-laid}
-use Rattle.laying.proofs.lay.close.Statement.{statement}
-use Rattle.laying.proofs.lay.close.Tie as tie
+use Rattle.writer.proofs.Desks.{close-laid}
+use Rattle.writer.proofs.calls.close.Statement.{statement}
+use Rattle.writer.proofs.calls.close.Tie as tie
 
 returns : tie.Need-returns
 unfolding zeroGap laySkip
