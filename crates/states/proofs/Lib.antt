@@ -1,2 +1,3 @@
-pub mod SliceLaws
-pub mod States
+-- Laws of states in their slices.
+pub mod NumberLaws
+pub mod StateLaws

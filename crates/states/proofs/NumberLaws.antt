@@ -7,7 +7,7 @@ use native.Mathlib.Omega.{arith}
 use borrow.Author.Tests.{leb-true}
 use Rattle.group.specs.declared.Phase.{Phase}
 use Rattle.group.specs.declared.Phase.the-variants.{Free, Inside, Owed}
-use Rattle.slices.specs.Slices.{phaseNumber, phaseOf, phaseMeant, b4Number, b4Set, b4Meant}
+use Rattle.states.specs.States.{phaseNumber, phaseOf, phaseMeant, b4Number, b4Set, b4Meant}
 
 pub phase-of-number : (p : Phase) → phaseOf (phaseNumber p) ≡ p
 phase-of-number Free = refl

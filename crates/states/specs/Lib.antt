@@ -1,1 +1,2 @@
-pub mod Slices
+-- What a reader of this crate must believe: a state as the bytes of its slice, and back.
+pub mod States

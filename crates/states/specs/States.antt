@@ -1,5 +1,5 @@
 -- Document 01, "What the box holds": "a state, an answer and rows are lent byte slices, each number four bytes, most
--- significant first". The lengths and the fields of a state slice, from the slice to a state and back.
+-- significant first". The length and the fields of a state slice, from the slice to a state and back.
 -- Assumes nothing.
 use Prim.Native.Nat.{ℕ, _*_}
 use mathlib.Core.List.{List, [], _∷_}
@@ -11,19 +11,12 @@ use Rattle.numbers.specs.Numbers.{inBytes, field}
 use Rattle.reader.specs.declared.Reader.{Reader}
 use Rattle.laying.specs.declared.Writer.{Writer}
 
--- A reader's state is four numbers, a writer's eight, an answer six.
+-- A reader's state is four numbers, a writer's eight.
 abbrev pub readerLength : ℕ
 readerLength = 16
 
 abbrev pub writerLength : ℕ
 writerLength = 32
-
-abbrev pub answerLength : ℕ
-answerLength = 24
-
--- A state and an answer slice are of their lengths.
-unfoldable pub lengthsKept : ℕ → ℕ → ℕ → Bool
-lengthsKept state own answer = eqb state own && eqb answer answerLength
 
 -- "free / inside / owed" as a number, and back. Above 2 a number "has no meaning".
 abbrev pub phaseNumber : Phase → ℕ

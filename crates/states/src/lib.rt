@@ -1,33 +1,21 @@
-// States and answers in lent slices: each number four bytes, most significant first.
+// States in lent slices: each number four bytes, most significant first. The leaves here have a `requires` on a slice's length,
+// which the calls above have tested.
 ghost use mathlib.Core.Path.{_≡_};
 ghost use mathlib.Core.Bool.{_&&_};
-ghost use mathlib.Core.List.{[], _∷_};
 ghost use Prim.Native.Nat.{_+_, _≤_};
 ghost use lib.ListN.{length};
 ghost use Rattle.numbers.specs.Store.{put};
 ghost use Rattle.numbers.specs.Numbers.{numberAt, bytesOf, inBytes};
-ghost use Rattle.slices.specs.Slices.{readerLength, writerLength, answerLength, lengthsKept, phaseNumber, phaseOf, b4Number, b4Meant};
-ghost use Rattle.slices.specs.Slices.{readerOf, readerBytes, readerMeant, writerOf, writerBytes, writerMeant};
+ghost use Rattle.states.specs.States.{readerLength, writerLength, phaseNumber, phaseOf, b4Number, b4Meant};
+ghost use Rattle.states.specs.States.{readerOf, readerBytes, readerMeant, writerOf, writerBytes, writerMeant};
 use group::Phase;
 use laying::Writer;
 use reader::Reader;
 
-// The lengths of the slices, in bytes.
+// The lengths of the state slices, in bytes.
 pub const READER_LENGTH: usize = 16;
 
 pub const WRITER_LENGTH: usize = 32;
-
-pub const ANSWER_LENGTH: usize = 24;
-
-// Whether a state and an answer slice are of their lengths.
-pub fn lengths_kept(state: usize, own: usize, answer: usize) -> bool
-    ensures { λ r. ⌜ r ≡ lengthsKept state own answer ⌝ }
-{
-    if state != own {
-        return false;
-    }
-    answer == ANSWER_LENGTH
-}
 
 fn phase_of(n: u32) -> Phase
     ensures { λ r. ⌜ r ≡ phaseOf n ⌝ }
@@ -160,27 +148,4 @@ pub fn put_writer(slice: &mut [u8], w: Writer)
     keep(slice, 20, w.entries);
     keep(slice, 24, b4);
     keep(slice, 28, w.rest);
-}
-
-// An answer's six numbers, over all that stood in the slice. Answers the first, which is what a call returns.
-pub fn put_answer(
-    slice: &mut [u8],
-    refusal: u32,
-    place: u32,
-    outcome: u32,
-    number: u32,
-    entries: u32,
-    taken: u32,
-) -> u32
-    requires { ⌜ length (now slice) ≡ answerLength ⌝ }
-    ensures { λ r. ⌜ r ≡ refusal ⌝ }
-    ensures { λ _. ⌜ now (slice .exit) ≡ inBytes (refusal ∷ place ∷ outcome ∷ number ∷ entries ∷ taken ∷ []) ⌝ }
-{
-    numbers::put_number(slice, 0, refusal);
-    numbers::put_number(slice, 4, place);
-    numbers::put_number(slice, 8, outcome);
-    numbers::put_number(slice, 12, number);
-    numbers::put_number(slice, 16, entries);
-    numbers::put_number(slice, 20, taken);
-    refusal
 }

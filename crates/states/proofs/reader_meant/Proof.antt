@@ -2,9 +2,9 @@
 use borrow.Author.Needs.{needs}
 use mathlib.Core.Path.{ap}
 use Prim.Native.Nat.{ℕ}
-use Rattle.slices.specs.Slices.{phaseMeant, readerMeant}
-use Rattle.slices.proofs.reader_meant.Statement.{statement}
-use Rattle.slices.proofs.reader_meant.Tie as tie
+use Rattle.states.specs.States.{phaseMeant, readerMeant}
+use Rattle.states.proofs.reader_meant.Statement.{statement}
+use Rattle.states.proofs.reader_meant.Tie as tie
 
 pub reader-meant-spec : {M : Type 1} → statement M
 unfolding readerMeant

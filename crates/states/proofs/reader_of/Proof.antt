@@ -1,8 +1,8 @@
 -- `reader_of` meets its contract, field by field. Assumes nothing.
 use borrow.Author.Needs.{needs}
-use Rattle.slices.specs.Slices.{readerOf}
-use Rattle.slices.proofs.reader_of.Statement.{statement}
-use Rattle.slices.proofs.reader_of.Tie as tie
+use Rattle.states.specs.States.{readerOf}
+use Rattle.states.proofs.reader_of.Statement.{statement}
+use Rattle.states.proofs.reader_of.Tie as tie
 
 pub reader-of-spec : {M : Type 1} → statement M
 unfolding readerOf

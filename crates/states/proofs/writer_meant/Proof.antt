@@ -1,9 +1,9 @@
 -- `writer_meant` meets its contract: the tests of the definition, in its order. Assumes nothing.
 use borrow.Author.Needs.{needs}
 use borrow.Author.Tests.{le-leb, lt-leb}
-use Rattle.slices.specs.Slices.{writerMeant}
-use Rattle.slices.proofs.writer_meant.Statement.{statement}
-use Rattle.slices.proofs.writer_meant.Tie as tie
+use Rattle.states.specs.States.{writerMeant}
+use Rattle.states.proofs.writer_meant.Statement.{statement}
+use Rattle.states.proofs.writer_meant.Tie as tie
 
 pub writer-meant-spec : {M : Type 1} → statement M
 unfolding writerMeant

@@ -1,8 +1,8 @@
 -- `writer_of` meets its contract, field by field. Assumes nothing.
 use borrow.Author.Needs.{needs}
-use Rattle.slices.specs.Slices.{readerOf, writerOf}
-use Rattle.slices.proofs.writer_of.Statement.{statement}
-use Rattle.slices.proofs.writer_of.Tie as tie
+use Rattle.states.specs.States.{readerOf, writerOf}
+use Rattle.states.proofs.writer_of.Statement.{statement}
+use Rattle.states.proofs.writer_of.Tie as tie
 
 returns : tie.Need-returns
 unfolding readerOf writerOf
