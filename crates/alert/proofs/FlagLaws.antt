@@ -21,7 +21,7 @@ use Rattle.numbers.specs.Store.{put}
 use Rattle.numbers.proofs.Stores.{put-put, put-whole}
 use Rattle.alert.specs.declared.AlertAnswer.{AlertAnswer}
 use Rattle.alert.specs.declared.AlertAnswer.the-variants.{Refused}
-use Rattle.alert.specs.Flags.{Makes, makeCall, readCall, countedIn, Says, raised, raisedFrom, countFrom, lowestFrom, raisedCount, lowestRaised, alertOf}
+use Rattle.alert.specs.Flags.{Makes, makeCall, readCall, countedIn, Says, byteOf, bitOf, raised, raisedFrom, countFrom, lowestFrom, raisedCount, lowestRaised, alertOf}
 
 -- All 64 flags as one number.
 abbrev pub word : (high low : ℕ) → ℕ
@@ -80,11 +80,11 @@ digit-of-byte n above below e =
 digit-of-flag : (n flag : ℕ) → 1 ≤ flag → flag ≤ 64 → raised (bytesOf 8 n) flag ≡ eqb (n / 2 ^ (64 - flag) % 2) 1
 unfolding raised
 digit-of-flag n flag least most =
-    let byte = (flag - 1) / 8 in
-    let bit = (flag - 1) % 8 in
-    let places : 8 * (7 - byte) + (7 - bit) ≡ 64 - flag = omega arith in
+    let byte = byteOf flag in
+    let bit = bitOf flag in
+    let places : 8 * (7 - byte) + bit ≡ 64 - flag = omega arith in
     let stands = byte-at 8 n byte (7 - byte) (omega arith) in
-    rw (stands, digit-of-byte (n / 256 ^ (7 - byte)) bit (7 - bit) (omega arith), power (7 - byte), shr-shr n (8 * (7 - byte)) (7 - bit), places)
+    rw (stands, digit-of-byte (n / 256 ^ (7 - byte)) (7 - bit) bit (omega arith), power (7 - byte), shr-shr n (8 * (7 - byte)) bit, places)
 
 -- Digits as flags: flag f of those that are looked at has 64 - f digits below it.
 abbrev pub Digits : ℕ → (ℕ → Bool) → Type 0
@@ -226,7 +226,7 @@ counted-so alert = by (lowestRaised alert) (lowest-so (raised alert) 1 64)
     by : (lowest : ℕ) → Lowest (raised alert) 1 64 lowest → Says alert (raisedCount alert) lowest
     by lowest (none z h) =
         record {
-          number = count-listed (raised alert) 1 64;
+          how-many = count-listed (raised alert) 1 64;
           none = λ e f low high. h f low (omega arith);
           is-flag = λ e. absurd (e z);
           is-raised = λ e. absurd (e z);
@@ -234,7 +234,7 @@ counted-so alert = by (lowestRaised alert) (lowest-so (raised alert) 1 64)
         }
     by lowest (some low high u h) =
         record {
-          number = count-listed (raised alert) 1 64;
+          how-many = count-listed (raised alert) 1 64;
           none = λ e f least most. absurd (omega arith);
           is-flag = λ e. (low, omega arith);
           is-raised = λ e. u;

@@ -22,8 +22,15 @@ abbrev pub flagCount : ℕ
 flagCount = 64
 
 -- "flag 1 shall be specified by bit 7 of Byte 0 of this field and flag 64 shall be specified by bit 0 of Byte 7"
+abbrev pub byteOf : (flag : ℕ) → ℕ
+byteOf flag = (flag - 1) / 8
+
+abbrev pub bitOf : (flag : ℕ) → ℕ
+bitOf flag = 7 - (flag - 1) % 8
+
+-- Whether a flag is raised: its bit of its byte.
 unfoldable pub raised : (alert : List ℕ) (flag : ℕ) → Bool
-raised alert flag = eqb (getD alert ((flag - 1) / 8) 0 / 2 ^ (7 - (flag - 1) % 8) % 2) 1
+raised alert flag = eqb (getD alert (byteOf flag) 0 / 2 ^ bitOf flag % 2) 1
 
 -- How many of n flags from this one on are raised, one by one.
 unfoldable pub countFrom : (up : ℕ → Bool) (flag n : ℕ) → ℕ
@@ -52,7 +59,7 @@ raisedFlags alert = raisedFrom (raised alert) 1 flagCount
 
 -- What a count and a lowest flag say of eight bytes, 0 for none: over flags 1 to 64, one by one.
 pub record Says (alert : List ℕ) (count lowest : ℕ) : Type 0 where
-  pub number : count ≡ length (raisedFlags alert)
+  pub how-many : count ≡ length (raisedFlags alert)
   pub none : lowest ≡ 0 → (flag : ℕ) → 1 ≤ flag → flag ≤ 64 → raised alert flag ≡ false
   pub is-flag : (lowest ≡ 0 → ⊥) → (1 ≤ lowest) × (lowest ≤ 64)
   pub is-raised : (lowest ≡ 0 → ⊥) → raised alert lowest ≡ true

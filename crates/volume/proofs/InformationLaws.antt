@@ -13,11 +13,11 @@ use lib.Seq.{length-take-le, take-at, drop-at, drop-drop, getD-take, getD-drop}
 use Rattle.answer.specs.Answer.{ifAccepted}
 use Rattle.numbers.specs.Store.{put, zeros}
 use Rattle.numbers.proofs.Stores.{put-put, put-whole, take-rest, zeros-are}
-use Rattle.numbers.proofs.Computed.{below}
+use Rattle.numbers.proofs.Computed.{every, below}
 use Rattle.numbers.proofs.Tests.{both, passed}
 use Rattle.volume.specs.declared.VolumeAnswer.{VolumeAnswer}
-use Rattle.volume.specs.declared.VolumeAnswer.the-variants.{TypeA, TypeB, Refused}
-use Rattle.volume.specs.Information.{volumeLength, fieldsLength, lengthAndThickness, flags, volumeOf, fieldsOf, lengthsKept, reservedKept, thickness, flagsKept, told}
+use Rattle.volume.specs.declared.VolumeAnswer.the-variants.{Refused}
+use Rattle.volume.specs.Information.{volumeLength, fieldsLength, lengthAndThickness, flags, volumeOf, fieldsOf, lengthsKept, reservedKept, thickness, flagsKept}
 use Rattle.volume.specs.Information.{byteRefusal, makeRefusal, readRefusal, typeOf, answerOf, refusalOf, told}
 
 -- The volume, stored in three pieces.
@@ -36,24 +36,22 @@ unfolding fieldsOf
 fields-stored volume old f₁ wide long e =
     e ∙ put-whole old (take 37 (drop 3 volume)) (length-take-le 37 (drop 3 volume) (omega (arith, length-drop 3 volume)) ∙ sym wide)
 
--- The mask's test is the two rules of the Flags, by one computation over all bytes.
-agree : Bool → Bool → Bool
+-- A mask's test is the two rules of the Flags where it is so at every byte, which is one computation.
+abbrev pub agree : Bool → Bool → Bool
 agree true b = b
 agree false b = not b
 
 agreed : (a b : Bool) → T (agree a b) → a ≡ b
-unfolding agree
 agreed true true t = refl
 agreed true false t = absurd t
 agreed false true t = absurd t
 agreed false false t = refl
 
-masked : ℕ → Bool
-masked byte = agree (eqb (bitAnd byte 0xF0) 0x10) (flagsKept byte)
+abbrev pub masked : (mask left byte : ℕ) → Bool
+masked mask left byte = agree (eqb (bitAnd byte mask) left) (flagsKept byte)
 
-pub flags-masked : (byte : ℕ) → byte < 256 → eqb (bitAnd byte 0xF0) 0x10 ≡ flagsKept byte
-unfolding masked agree
-flags-masked byte h = agreed (eqb (bitAnd byte 0xF0) 0x10) (flagsKept byte) (below masked 256 tt byte h)
+pub flags-masked : (mask left : ℕ) → T (every (masked mask left) 0 256) → (byte : ℕ) → byte < 256 → eqb (bitAnd byte mask) left ≡ flagsKept byte
+flags-masked mask left all byte h = agreed (eqb (bitAnd byte mask) left) (flagsKept byte) (below (masked mask left) 256 all byte h)
 
 -- What stands in a volume among its fields.
 pub field-at : (volume : List ℕ) (i : ℕ) → i < 37 → getD (fieldsOf volume) i 0 ≡ getD volume (3 + i) 0
@@ -153,11 +151,11 @@ unfolding answerOf
 accepted-answer r refusal fields a e z f = rw (← e, z) f
 
 pub typed-left : (byte : ℕ) (new old : List ℕ) → ifAccepted (told (typeOf byte)) new old ≡ new
-typed-left byte new old = by (eqb (thickness byte) 0)
+typed-left byte new old = by (eqb (thickness byte) 0) _ _ refl refl
   where
-    by : (b : Bool) → ifAccepted (told (cond b TypeA TypeB)) new old ≡ new
-    by true = refl
-    by false = refl
+    by : (b : Bool) (x y : VolumeAnswer) → ifAccepted (told x) new old ≡ new → ifAccepted (told y) new old ≡ new → ifAccepted (told (cond b x y)) new old ≡ new
+    by true x y e f = e
+    by false x y e f = f
 
 pub accepted-left : (byte : ℕ) (a : VolumeAnswer) (new old after : List ℕ) → a ≡ typeOf byte → after ≡ new → after ≡ ifAccepted (told a) new old
 accepted-left byte a new old after e f = f ∙ sym (ap (λ (b : VolumeAnswer). ifAccepted (told b) new old) e ∙ typed-left byte new old)

@@ -9,7 +9,7 @@ pub read-spec : {M : Type 1} → statement M
 read-spec =
     tie.close
     (tie.spec
-    (λ c. read-refused _ (c .if1 .taken))
+    (λ c. read-refused _ (λ e. omega arith))
     (λ c κs. search needs)
     (λ c κs. search needs)
     (λ c κs. search needs)
