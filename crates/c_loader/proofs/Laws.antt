@@ -5,12 +5,12 @@ use mathlib.Core.Bool.{true}
 use mathlib.Core.List.{List, [], _∷_}
 use Prim.Native.Nat.{ℕ}
 use Rattle.answer.specs.declared.Told.{Told}
-use Rattle.loader.specs.declared.VolumeAnswer.{VolumeAnswer}
-use Rattle.loader.specs.declared.AlertAnswer.{AlertAnswer}
-use Rattle.loader.specs.declared.RadioAnswer.{RadioAnswer}
-use Rattle.loader.specs.Information.{told, Makes, Reads}
-use Rattle.loader.specs.Flags.{alertTold, MakesAlert, readAlertCall}
-use Rattle.loader.specs.Search.{findCall, radioTold}
+use Rattle.volume.specs.declared.VolumeAnswer.{VolumeAnswer}
+use Rattle.alert.specs.declared.AlertAnswer.{AlertAnswer}
+use Rattle.radio.specs.declared.RadioAnswer.{RadioAnswer}
+use Rattle.volume.specs.Information.{told, Makes, Reads}
+use Rattle.alert.specs.Flags as alert
+use Rattle.radio.specs.Search as radio
 use Rattle.slices.specs.Call.{left, answerKept, Tells}
 use Rattle.slices.proofs.Calls.{answered, none-lent, more-lent}
 use Rattle.c_loader.specs.Calls.{ddsVolumeMake, ddsVolumeRead, ddsAlertMake, ddsAlertRead, ddsRadioFind}
@@ -26,15 +26,15 @@ module _ {t : Told} {refusal : ℕ} (answer : List ℕ) {answer′ : List ℕ} (
   unfolding ddsVolumeRead
   volume-read volume fields {a} r e t = answered told _ _ answer kept (r .answer) e (more-lent (told a) _ _ _ _ (r .fields-left) (none-lent (told a))) t
 
-  pub alert-made : (high low : ℕ) (alert : List ℕ) {a : AlertAnswer} {alert′ : List ℕ} → MakesAlert high low alert a alert′ → t ≡ alertTold a → Tells t refusal answer′
+  pub alert-made : (high low : ℕ) (alert : List ℕ) {a : AlertAnswer} {alert′ : List ℕ} → alert.Makes high low alert a alert′ → t ≡ alert.told a → Tells t refusal answer′
       → left refusal (alert′ ∷ []) answer′ ≡ ddsAlertMake high low alert answer
   unfolding ddsAlertMake
-  alert-made high low alert {a} m e t = answered alertTold _ _ answer kept (m .answer) e (more-lent (alertTold a) _ _ _ _ (m .alert-left) (none-lent (alertTold a))) t
+  alert-made high low alert {a} m e t = answered alert.told _ _ answer kept (m .answer) e (more-lent (alert.told a) _ _ _ _ (m .alert-left) (none-lent (alert.told a))) t
 
-  pub alert-read : (alert : List ℕ) {a : AlertAnswer} → a ≡ readAlertCall alert → t ≡ alertTold a → Tells t refusal answer′ → left refusal [] answer′ ≡ ddsAlertRead alert answer
+  pub alert-read : (alert : List ℕ) {a : AlertAnswer} → a ≡ alert.readCall alert → t ≡ alert.told a → Tells t refusal answer′ → left refusal [] answer′ ≡ ddsAlertRead alert answer
   unfolding ddsAlertRead
-  alert-read alert {a} r e t = answered alertTold _ _ answer kept r e (none-lent (alertTold a)) t
+  alert-read alert {a} r e t = answered alert.told _ _ answer kept r e (none-lent (alert.told a)) t
 
-  pub radio-found : (received : List ℕ) {a : RadioAnswer} → a ≡ findCall received → t ≡ radioTold a → Tells t refusal answer′ → left refusal [] answer′ ≡ ddsRadioFind received answer
+  pub radio-found : (received : List ℕ) {a : RadioAnswer} → a ≡ radio.findCall received → t ≡ radio.told a → Tells t refusal answer′ → left refusal [] answer′ ≡ ddsRadioFind received answer
   unfolding ddsRadioFind
-  radio-found received {a} f e t = answered radioTold _ _ answer kept f e (none-lent (radioTold a)) t
+  radio-found received {a} f e t = answered radio.told _ _ answer kept f e (none-lent (radio.told a)) t

@@ -7,8 +7,8 @@ use mathlib.Core.List.{List}
 use Prim.Native.Nat.{ℕ}
 use borrow.Author.Tests.{eq-eqb}
 use lib.ListN.{length}
-use Rattle.loader.specs.Information.{fieldsOf, makeRefusal, readRefusal, answerOf, refusalOf, Makes, Reads}
-use Rattle.loader.proofs.Theorems.{volume-returned, volume-only-made}
+use Rattle.volume.specs.Information.{fieldsOf, makeRefusal, readRefusal, answerOf, refusalOf, Makes, Reads}
+use Rattle.volume.proofs.Theorems.{volume-returned, volume-only-made}
 use Rattle.slices.specs.Call.{Left, answerLength, answerKept}
 use Rattle.slices.proofs.Calls.{let-through, leaves}
 use Rattle.c_loader.specs.Calls.{ddsVolumeMake, volumeMade, ddsVolumeRead, fieldsRead}

@@ -4,9 +4,9 @@
 use Prim.Native.Nat.{ℕ}
 use mathlib.Core.List.{List, [], _∷_}
 use lib.ListN.{length}
-use Rattle.loader.specs.Information.{volumeOf, fieldsOf, makeRefusal, readRefusal, answerOf, told}
-use Rattle.loader.specs.Flags.{alertOf, makeAlertCall, readAlertCall, alertTold}
-use Rattle.loader.specs.Search.{findCall, radioTold}
+use Rattle.volume.specs.Information.{volumeOf, fieldsOf, makeRefusal, readRefusal, answerOf, told}
+use Rattle.alert.specs.Flags as alert
+use Rattle.radio.specs.Search as radio
 use Rattle.slices.specs.Call.{Left, slice, answerKept, called}
 
 -- Making Volume Information may write the volume, reading it the fields.
@@ -27,10 +27,10 @@ fieldsRead r = slice r 0
 -- Making the flags' bytes may write them. Reading them, and the search, write the answer alone.
 unfoldable pub ddsAlertMake : (high low : ℕ) (alert answer : List ℕ) → Left
 ddsAlertMake high low alert answer =
-    called (answerKept answer) (alertTold (makeAlertCall high low (length alert))) (alertOf high low ∷ []) (alert ∷ []) answer
+    called (answerKept answer) (alert.told (alert.makeCall high low (length alert))) (alert.alertOf high low ∷ []) (alert ∷ []) answer
 
 unfoldable pub ddsAlertRead : (alert answer : List ℕ) → Left
-ddsAlertRead alert answer = called (answerKept answer) (alertTold (readAlertCall alert)) [] [] answer
+ddsAlertRead alert answer = called (answerKept answer) (alert.told (alert.readCall alert)) [] [] answer
 
 unfoldable pub ddsRadioFind : (received answer : List ℕ) → Left
-ddsRadioFind received answer = called (answerKept answer) (radioTold (findCall received)) [] [] answer
+ddsRadioFind received answer = called (answerKept answer) (radio.told (radio.findCall received)) [] [] answer

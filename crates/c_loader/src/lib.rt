@@ -1,18 +1,18 @@
 // An AIT loader's memory from C: Volume Information, the Tape Alert flags, and the search in received bytes.
 ghost use mathlib.Core.Path.{_≡_};
 ghost use mathlib.Core.List.{[], _∷_};
-ghost use Rattle.loader.specs.Information.{told};
-ghost use Rattle.loader.specs.Flags.{alertTold};
-ghost use Rattle.loader.specs.Search.{radioTold};
+ghost use Rattle.volume.specs.Information.{told};
+ghost use Rattle.alert.specs.Flags as alert;
+ghost use Rattle.radio.specs.Search as radio;
 ghost use Rattle.slices.specs.Call.{left};
 ghost use Rattle.c_loader.specs.Calls.{ddsVolumeMake, ddsVolumeRead, ddsAlertMake, ddsAlertRead, ddsRadioFind};
 use answer::Told;
-use loader::Alert;
-use loader::AlertAnswer;
-use loader::Radio;
-use loader::RadioAnswer;
-use loader::Volume;
-use loader::VolumeAnswer;
+use alert::Alert;
+use alert::AlertAnswer;
+use radio::Radio;
+use radio::RadioAnswer;
+use volume::Volume;
+use volume::VolumeAnswer;
 
 // What a call on Volume Information tells of its answer.
 fn volume_told(done: VolumeAnswer) -> Told
@@ -27,7 +27,7 @@ fn volume_told(done: VolumeAnswer) -> Told
 
 // What a call on the flags tells of its answer.
 fn alert_told(done: AlertAnswer) -> Told
-    ensures { λ r. ⌜ r ≡ alertTold done ⌝ }
+    ensures { λ r. ⌜ r ≡ alert.told done ⌝ }
 {
     match done {
         AlertAnswer::Counted {
@@ -42,7 +42,7 @@ fn alert_told(done: AlertAnswer) -> Told
 
 // What a search tells of its answer.
 fn radio_told(done: RadioAnswer) -> Told
-    ensures { λ r. ⌜ r ≡ radioTold done ⌝ }
+    ensures { λ r. ⌜ r ≡ radio.told done ⌝ }
 {
     match done {
         RadioAnswer::Found { place, length_at } => Told::Accepted(1, place, length_at, 0),
