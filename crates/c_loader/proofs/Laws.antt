@@ -9,7 +9,7 @@ use Rattle.volume.specs.declared.VolumeAnswer.{VolumeAnswer}
 use Rattle.alert.specs.declared.AlertAnswer.{AlertAnswer}
 use Rattle.radio.specs.declared.RadioAnswer.{RadioAnswer}
 use Rattle.volume.specs.Information.{told, Makes, Reads}
-use Rattle.alert.specs.Flags as alert
+use Rattle.alert.specs.Flags as flags
 use Rattle.radio.specs.Search as radio
 use Rattle.slices.specs.Call.{left, answerKept, Tells}
 use Rattle.slices.proofs.Calls.{answered, none-lent, more-lent}
@@ -26,14 +26,14 @@ module _ {t : Told} {refusal : ℕ} (answer : List ℕ) {answer′ : List ℕ} (
   unfolding ddsVolumeRead
   volume-read volume fields {a} r e t = answered told _ _ answer kept (r .answer) e (more-lent (told a) _ _ _ _ (r .fields-left) (none-lent (told a))) t
 
-  pub alert-made : (high low : ℕ) (alert : List ℕ) {a : AlertAnswer} {alert′ : List ℕ} → alert.Makes high low alert a alert′ → t ≡ alert.told a → Tells t refusal answer′
+  pub alert-made : (high low : ℕ) (alert : List ℕ) {a : AlertAnswer} {alert′ : List ℕ} → flags.Makes high low alert a alert′ → t ≡ flags.told a → Tells t refusal answer′
       → left refusal (alert′ ∷ []) answer′ ≡ ddsAlertMake high low alert answer
   unfolding ddsAlertMake
-  alert-made high low alert {a} m e t = answered alert.told _ _ answer kept (m .answer) e (more-lent (alert.told a) _ _ _ _ (m .alert-left) (none-lent (alert.told a))) t
+  alert-made high low alert {a} m e t = answered flags.told _ _ answer kept (m .answer) e (more-lent (flags.told a) _ _ _ _ (m .alert-left) (none-lent (flags.told a))) t
 
-  pub alert-read : (alert : List ℕ) {a : AlertAnswer} → a ≡ alert.readCall alert → t ≡ alert.told a → Tells t refusal answer′ → left refusal [] answer′ ≡ ddsAlertRead alert answer
+  pub alert-read : (alert : List ℕ) {a : AlertAnswer} → a ≡ flags.readCall alert → t ≡ flags.told a → Tells t refusal answer′ → left refusal [] answer′ ≡ ddsAlertRead alert answer
   unfolding ddsAlertRead
-  alert-read alert {a} r e t = answered alert.told _ _ answer kept r e (none-lent (alert.told a)) t
+  alert-read alert {a} r e t = answered flags.told _ _ answer kept r e (none-lent (flags.told a)) t
 
   pub radio-found : (received : List ℕ) {a : RadioAnswer} → a ≡ radio.findCall received → t ≡ radio.told a → Tells t refusal answer′ → left refusal [] answer′ ≡ ddsRadioFind received answer
   unfolding ddsRadioFind

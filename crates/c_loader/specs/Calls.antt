@@ -5,7 +5,7 @@ use Prim.Native.Nat.{ℕ}
 use mathlib.Core.List.{List, [], _∷_}
 use lib.ListN.{length}
 use Rattle.volume.specs.Information.{volumeOf, fieldsOf, makeRefusal, readRefusal, answerOf, told}
-use Rattle.alert.specs.Flags as alert
+use Rattle.alert.specs.Flags as flags
 use Rattle.radio.specs.Search as radio
 use Rattle.slices.specs.Call.{Left, slice, answerKept, called}
 
@@ -27,10 +27,10 @@ fieldsRead r = slice r 0
 -- Making the flags' bytes may write them. Reading them, and the search, write the answer alone.
 unfoldable pub ddsAlertMake : (high low : ℕ) (alert answer : List ℕ) → Left
 ddsAlertMake high low alert answer =
-    called (answerKept answer) (alert.told (alert.makeCall high low (length alert))) (alert.alertOf high low ∷ []) (alert ∷ []) answer
+    called (answerKept answer) (flags.told (flags.makeCall high low (length alert))) (flags.alertOf high low ∷ []) (alert ∷ []) answer
 
 unfoldable pub ddsAlertRead : (alert answer : List ℕ) → Left
-ddsAlertRead alert answer = called (answerKept answer) (alert.told (alert.readCall alert)) [] [] answer
+ddsAlertRead alert answer = called (answerKept answer) (flags.told (flags.readCall alert)) [] [] answer
 
 unfoldable pub ddsRadioFind : (received answer : List ℕ) → Left
 ddsRadioFind received answer = called (answerKept answer) (radio.told (radio.findCall received)) [] [] answer

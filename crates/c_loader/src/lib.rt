@@ -2,7 +2,7 @@
 ghost use mathlib.Core.Path.{_≡_};
 ghost use mathlib.Core.List.{[], _∷_};
 ghost use Rattle.volume.specs.Information.{told};
-ghost use Rattle.alert.specs.Flags as alert;
+ghost use Rattle.alert.specs.Flags as flags;
 ghost use Rattle.radio.specs.Search as radio;
 ghost use Rattle.slices.specs.Call.{left};
 ghost use Rattle.c_loader.specs.Calls.{ddsVolumeMake, ddsVolumeRead, ddsAlertMake, ddsAlertRead, ddsRadioFind};
@@ -27,7 +27,7 @@ fn volume_told(done: VolumeAnswer) -> Told
 
 // What a call on the flags tells of its answer.
 fn alert_told(done: AlertAnswer) -> Told
-    ensures { λ r. ⌜ r ≡ alert.told done ⌝ }
+    ensures { λ r. ⌜ r ≡ flags.told done ⌝ }
 {
     match done {
         AlertAnswer::Counted {
