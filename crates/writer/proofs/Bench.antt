@@ -13,7 +13,7 @@ use Rattle.group.specs.State.{runSound, startRefusal}
 use Rattle.writer.specs.declared.WriterStart.{WriterStart}
 use Rattle.writer.specs.declared.WriterStart.the-variants.{Started, Refused}
 use Rattle.answer.specs.Answer.{numbersTold}
-use Rattle.writer.specs.State.{roomKept, emptyKept, restKept, dataKept, clearKept, spentKept, writerSound, recordRefusal, separatorRefusal, endRefusal}
+use Rattle.sound.specs.State.{roomKept, emptyKept, restKept, dataKept, clearKept, spentKept, writerSound, recordRefusal, separatorRefusal, endRefusal}
 use Rattle.laying.specs.Room.{room, fitOf}
 use Rattle.laying.specs.Laying.{Desk, desk, layEntry, layData, layPart, moved, laySkip, zeroGap, shut, warnState, payOwed, ready}
 use Rattle.writer.specs.Calls.{Done, finished, closed, orRefused, writerStartCall, byFit, recordFree, middle, last, recordInside, recordAccepted, recordCall, separatorAccepted, separatorCall, endAccepted, endCall, Call, aRecord, aSeparator, anEnd, call, told, stateOf}

@@ -1,6 +1,4 @@
 -- The laws that the proofs of this crate share, and those that the crates above cite.
-pub mod SoundLaws
-pub mod Accepted
 pub mod Desks
 pub mod CallLaws
 pub mod Left

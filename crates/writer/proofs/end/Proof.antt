@@ -3,10 +3,10 @@ use borrow.Author.Needs.{needs}
 use native.Mathlib.Omega.{arith}
 use mathlib.Core.Path.{_≡_, sym, ap, _∙_}
 use Rattle.laying.specs.Laying.{desk, ready}
-use Rattle.writer.specs.State.{endRefusal}
+use Rattle.sound.specs.State.{endRefusal}
 use Rattle.writer.specs.Calls.{finished, closed, endAccepted, endCall}
-use Rattle.writer.proofs.Desks.{refuse, accept, clauses}
-use Rattle.writer.proofs.Accepted.{is-ready, Accepted, end-accepted}
+use Rattle.writer.proofs.Desks.{refuse, accept, meets}
+use Rattle.sound.proofs.Accepted.{is-ready, Accepted, end-accepted}
 use lib.ListN.{length}
 use Rattle.writer.specs.Calls.{Done}
 use Rattle.writer.proofs.end.Statement.{statement}
@@ -37,11 +37,11 @@ refused c =
     let a = c .before .before .before .args in
     let w = desk (a .given) (a .group .now) in
     let n = c .before .end-refusal in
-    clauses (refuse _ (n .result) w (endAccepted (a .warn) w) (n .ensures) (c .if1 .taken))
+    meets (refuse _ (n .result) w (endAccepted (a .warn) w) (n .ensures) (c .if1 .taken))
 
 empty : tie.Need-returns-2
 unfolding endAccepted finished
-empty c = clauses (done-by (c .before .before) (rw (sym (c .before .ends-empty .ensures) ∙ c .if2 .taken)))
+empty c = meets (done-by (c .before .before) (rw (sym (c .before .ends-empty .ensures) ∙ c .if2 .taken)))
 
 close-requires : tie.Need-close-requires
 close-requires c κs = omega (arith, known (c .before .before .before .before .before), c .before .before .before .ready .ensures .1 .0)
@@ -49,7 +49,7 @@ close-requires c κs = omega (arith, known (c .before .before .before .before .b
 shut : tie.Need-returns-3
 unfolding endAccepted
 shut c =
-    clauses
+    meets
     (done-by (c .before .before .before .before .before .before .before .before .before .before)
     (rw (sym (c .before .before .before .before .before .before .before .before .before .ends-empty .ensures) ∙ c .before .before .before .before .before .before .before .before .if2 .left) (c .before .before .close .ensures ∙ ap (closed 0) (c .before .before .before .before .before .before .ready .ensures .0))))
 

@@ -2,11 +2,11 @@
 use borrow.Author.Needs.{needs}
 use native.Mathlib.Omega.{arith}
 use mathlib.Core.Path.{_≡_, refl, sym, ap, _∙_}
-use Rattle.writer.specs.State.{isInside, recordRefusal}
+use Rattle.sound.specs.State.{isInside, recordRefusal}
 use Rattle.laying.specs.Laying.{desk, Desk, ready}
 use Rattle.writer.specs.Calls.{Done, recordFree, recordInside, recordAccepted, recordCall}
-use Rattle.writer.proofs.Desks.{refuse, accept, clauses}
-use Rattle.writer.proofs.Accepted.{is-ready, Offered, record-accepted, opened}
+use Rattle.writer.proofs.Desks.{refuse, accept, meets}
+use Rattle.sound.proofs.Accepted.{is-ready, Offered, record-accepted, opened}
 use Prim.Native.Nat.{ℕ}
 use mathlib.Core.Bool.{true, false, true≢false}
 use mathlib.Core.List.{List}
@@ -45,7 +45,7 @@ refused c =
     let a = c .before .before .before .before .args in
     let w = desk (a .given) (a .group .now) in
     let n = c .before .record-refusal in
-    clauses
+    meets
     (refuse _ (n .result) w (recordAccepted (a .given .phase) (a .«data» .now) (ready (a .warn) w)) (n .ensures) (c .if1 .taken))
 
 inside-requires : tie.Need-record-inside-requires
@@ -70,12 +70,12 @@ done-by c e =
 
 by-inside : tie.Need-returns-2
 by-inside c =
-    clauses
+    meets
     (done-by (c .before .before .before .before .before .before .before .before) (c .before .before .record-inside .ensures ∙ inside _ _ _ (sym (c .before .before .before .before .before .is-inside .ensures) ∙ c .before .before .before .before .if2 .taken)))
 
 by-free : tie.Need-returns-3
 by-free c =
-    clauses
+    meets
     (done-by (c .before .before .before .before .before .before .before .before) (c .before .before .record-free .ensures ∙ free _ _ _ (sym (c .before .before .before .before .before .is-inside .ensures) ∙ c .before .before .before .before .if2 .left)))
 
 pub record-spec : {M : Type 1} → statement M

@@ -3,10 +3,10 @@ use borrow.Author.Needs.{needs}
 use native.Mathlib.Omega.{arith}
 use mathlib.Core.Path.{_≡_, sym, ap, _∙_}
 use Rattle.laying.specs.Laying.{desk, ready}
-use Rattle.writer.specs.State.{separatorRefusal}
+use Rattle.sound.specs.State.{separatorRefusal}
 use Rattle.writer.specs.Calls.{separatorAccepted, separatorCall}
-use Rattle.writer.proofs.Desks.{refuse, accept, clauses}
-use Rattle.writer.proofs.Accepted.{is-ready, Separated, separator-accepted}
+use Rattle.writer.proofs.Desks.{refuse, accept, meets}
+use Rattle.sound.proofs.Accepted.{is-ready, Separated, separator-accepted}
 use lib.ListN.{length}
 use Rattle.writer.proofs.separator.Statement.{statement}
 use Rattle.writer.proofs.separator.Tie as tie
@@ -24,7 +24,7 @@ refused c =
     let a = c .before .before .before .args in
     let w = desk (a .given) (a .group .now) in
     let n = c .before .separator-refusal in
-    clauses (refuse _ (n .result) w (separatorAccepted (a .value) (ready (a .warn) w)) (n .ensures) (c .if1 .taken))
+    meets (refuse _ (n .result) w (separatorAccepted (a .value) (ready (a .warn) w)) (n .ensures) (c .if1 .taken))
 
 separator-requires : tie.Need-separator-requires
 separator-requires c κs = omega (arith, known (c .before .before .before .before .before) .accepted, c .before .before .before .ready .ensures .1 .0)
@@ -34,7 +34,7 @@ unfolding separatorCall
 laid c =
     let a = c .before .before .before .before .before .before .before .before .before .before .before .args in
     let w = desk (a .given) (a .group .now) in
-    clauses
+    meets
     (c .before .before .separator .ensures
     ∙ ap (separatorAccepted (a .value)) (c .before .before .before .before .before .before .ready .ensures .0)
     ∙ accept _ w (separatorAccepted (a .value) (ready (a .warn) w)) (none (c .before .before .before .before .before .before .before .before)))

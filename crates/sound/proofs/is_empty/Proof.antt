@@ -1,7 +1,7 @@
 -- `is_empty` meets its contract. Assumes nothing.
 use Rattle.numbers.proofs.Tests.{tests}
-use Rattle.writer.proofs.state.is_empty.Statement.{statement}
-use Rattle.writer.proofs.state.is_empty.Tie as tie
+use Rattle.sound.proofs.is_empty.Statement.{statement}
+use Rattle.sound.proofs.is_empty.Tie as tie
 
 pub is-empty-spec : {M : Type 1} → statement M
 is-empty-spec =

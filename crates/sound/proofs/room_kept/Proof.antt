@@ -1,9 +1,9 @@
 -- `room_kept` meets its contract. Assumes nothing.
 use borrow.Author.Needs.{needs}
 use Rattle.numbers.proofs.Tests.{fails, holds}
-use Rattle.writer.specs.State.{roomKept}
-use Rattle.writer.proofs.state.room_kept.Statement.{statement}
-use Rattle.writer.proofs.state.room_kept.Tie as tie
+use Rattle.sound.specs.State.{roomKept}
+use Rattle.sound.proofs.room_kept.Statement.{statement}
+use Rattle.sound.proofs.room_kept.Tie as tie
 
 pub room-kept-spec : {M : Type 1} → statement M
 unfolding roomKept

@@ -11,7 +11,7 @@ use Rattle.group.specs.State.{runSound}
 use Rattle.numbers.proofs.Tests.{both, and}
 use Rattle.group.proofs.StateLaws.{Run, run-of-sound, sound-of-run}
 use Rattle.laying.specs.declared.Writer.{Writer}
-use Rattle.writer.specs.State.{isFree, isInside, isEmpty, roomKept, emptyKept, restKept, dataKept, clearKept, spentKept, writerSound}
+use Rattle.sound.specs.State.{isFree, isInside, isEmpty, roomKept, emptyKept, restKept, dataKept, clearKept, spentKept, writerSound}
 
 -- What a choice says on each side, and a choice from both sides.
 pub chosen : (a b c : Bool) → cond a b c ≡ true → a ≡ true → b ≡ true

@@ -1,9 +1,9 @@
 -- `is_sound` meets its contract: the rules of the definition, in its order. Assumes nothing.
 use borrow.Author.Needs.{needs}
 use Rattle.numbers.proofs.Tests.{fails, holds}
-use Rattle.writer.specs.State.{writerSound}
-use Rattle.writer.proofs.state.is_sound.Statement.{statement}
-use Rattle.writer.proofs.state.is_sound.Tie as tie
+use Rattle.sound.specs.State.{writerSound}
+use Rattle.sound.proofs.is_sound.Statement.{statement}
+use Rattle.sound.proofs.is_sound.Tie as tie
 
 pub is-sound-spec : {M : Type 1} → statement M
 unfolding writerSound

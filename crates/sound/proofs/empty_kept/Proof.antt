@@ -1,9 +1,9 @@
 -- `empty_kept` meets its contract. Assumes nothing.
 use borrow.Author.Needs.{needs}
 use mathlib.Core.Path.{sym, _∙_}
-use Rattle.writer.specs.State.{emptyKept}
-use Rattle.writer.proofs.state.empty_kept.Statement.{statement}
-use Rattle.writer.proofs.state.empty_kept.Tie as tie
+use Rattle.sound.specs.State.{emptyKept}
+use Rattle.sound.proofs.empty_kept.Statement.{statement}
+use Rattle.sound.proofs.empty_kept.Tie as tie
 
 pub empty-kept-spec : {M : Type 1} → statement M
 unfolding emptyKept

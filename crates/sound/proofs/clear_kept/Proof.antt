@@ -1,8 +1,8 @@
 -- `clear_kept` meets its contract. Assumes nothing.
 use Rattle.numbers.proofs.Tests.{tests}
-use Rattle.writer.specs.State.{clearKept}
-use Rattle.writer.proofs.state.clear_kept.Statement.{statement}
-use Rattle.writer.proofs.state.clear_kept.Tie as tie
+use Rattle.sound.specs.State.{clearKept}
+use Rattle.sound.proofs.clear_kept.Statement.{statement}
+use Rattle.sound.proofs.clear_kept.Tie as tie
 
 pub clear-kept-spec : {M : Type 1} → statement M
 unfolding clearKept

@@ -1,9 +1,9 @@
 -- `spent_kept` meets its contract. Assumes nothing.
 use borrow.Author.Needs.{needs}
 use borrow.Author.Tests.{eq-eqb, ne-eqb}
-use Rattle.writer.specs.State.{spentKept}
-use Rattle.writer.proofs.state.spent_kept.Statement.{statement}
-use Rattle.writer.proofs.state.spent_kept.Tie as tie
+use Rattle.sound.specs.State.{spentKept}
+use Rattle.sound.proofs.spent_kept.Statement.{statement}
+use Rattle.sound.proofs.spent_kept.Tie as tie
 
 pub spent-kept-spec : {M : Type 1} → statement M
 unfolding spentKept

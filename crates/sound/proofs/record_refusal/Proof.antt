@@ -2,9 +2,9 @@
 use borrow.Author.Needs.{needs}
 use borrow.Author.Tests.{eq-eqb, ne-eqb, le-leb, lt-leb}
 use Rattle.numbers.proofs.Tests.{fails, holds}
-use Rattle.writer.specs.State.{recordRefusal}
-use Rattle.writer.proofs.state.record_refusal.Statement.{statement}
-use Rattle.writer.proofs.state.record_refusal.Tie as tie
+use Rattle.sound.specs.State.{recordRefusal}
+use Rattle.sound.proofs.record_refusal.Statement.{statement}
+use Rattle.sound.proofs.record_refusal.Tie as tie
 
 pub record-refusal-spec : {M : Type 1} → statement M
 unfolding recordRefusal

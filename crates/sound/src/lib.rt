@@ -1,8 +1,8 @@
 // When a writer's state is sound, and what each call refuses: the tests of document 01, in its order.
 ghost use mathlib.Core.Path.{_≡_};
-ghost use Rattle.writer.specs.State.{isFree, isInside, isOwed, isEmpty, endsEmpty};
-ghost use Rattle.writer.specs.State.{roomKept, emptyKept, restKept, dataKept, clearKept, spentKept, writerSound};
-ghost use Rattle.writer.specs.State.{recordRefusal, separatorRefusal, endRefusal};
+ghost use Rattle.sound.specs.State.{isFree, isInside, isOwed, isEmpty, endsEmpty};
+ghost use Rattle.sound.specs.State.{roomKept, emptyKept, restKept, dataKept, clearKept, spentKept, writerSound};
+ghost use Rattle.sound.specs.State.{recordRefusal, separatorRefusal, endRefusal};
 use group::Group;
 use group::Phase;
 use laying::Writer;
@@ -17,7 +17,7 @@ fn is_free(phase: Phase) -> bool
     }
 }
 
-pub(crate) fn is_inside(phase: Phase) -> bool
+pub fn is_inside(phase: Phase) -> bool
     ensures { λ r. ⌜ r ≡ isInside phase ⌝ }
 {
     match phase {
@@ -134,7 +134,7 @@ fn is_sound(w: Writer) -> bool
 }
 
 // The number of a record's refusal, 0 if it is accepted.
-pub(crate) fn record_refusal(w: Writer, len: usize, n: usize) -> u32
+pub fn record_refusal(w: Writer, len: usize, n: usize) -> u32
     ensures { λ r. ⌜ r ≡ recordRefusal w len n ⌝ }
 {
     if !is_sound(w) {
@@ -162,7 +162,7 @@ pub(crate) fn record_refusal(w: Writer, len: usize, n: usize) -> u32
     0
 }
 
-pub(crate) fn separator_refusal(w: Writer, len: usize, value: u32) -> u32
+pub fn separator_refusal(w: Writer, len: usize, value: u32) -> u32
     ensures { λ r. ⌜ r ≡ separatorRefusal w len value ⌝ }
 {
     if !is_sound(w) {
@@ -184,7 +184,7 @@ pub(crate) fn separator_refusal(w: Writer, len: usize, value: u32) -> u32
     0
 }
 
-pub(crate) fn end_refusal(w: Writer, len: usize) -> u32
+pub fn end_refusal(w: Writer, len: usize) -> u32
     ensures { λ r. ⌜ r ≡ endRefusal w len ⌝ }
 {
     if !is_sound(w) {
@@ -207,7 +207,7 @@ pub(crate) fn end_refusal(w: Writer, len: usize) -> u32
 }
 
 // Whether an end closes nothing.
-pub(crate) fn ends_empty(w: Writer) -> bool
+pub fn ends_empty(w: Writer) -> bool
     ensures { λ r. ⌜ r ≡ endsEmpty w ⌝ }
 {
     let phase = w.phase;

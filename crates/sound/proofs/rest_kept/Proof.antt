@@ -2,9 +2,9 @@
 use borrow.Author.Needs.{needs}
 use borrow.Author.Tests.{lt-leb, le-leb}
 use Rattle.numbers.proofs.Tests.{fails, holds}
-use Rattle.writer.specs.State.{restKept}
-use Rattle.writer.proofs.state.rest_kept.Statement.{statement}
-use Rattle.writer.proofs.state.rest_kept.Tie as tie
+use Rattle.sound.specs.State.{restKept}
+use Rattle.sound.proofs.rest_kept.Statement.{statement}
+use Rattle.sound.proofs.rest_kept.Tie as tie
 
 pub rest-kept-spec : {M : Type 1} → statement M
 unfolding restKept

@@ -1,8 +1,8 @@
 -- `data_kept` meets its contract. Assumes nothing.
 use Rattle.numbers.proofs.Tests.{tests}
-use Rattle.writer.specs.State.{dataKept}
-use Rattle.writer.proofs.state.data_kept.Statement.{statement}
-use Rattle.writer.proofs.state.data_kept.Tie as tie
+use Rattle.sound.specs.State.{dataKept}
+use Rattle.sound.proofs.data_kept.Statement.{statement}
+use Rattle.sound.proofs.data_kept.Tie as tie
 
 pub data-kept-spec : {M : Type 1} → statement M
 unfolding dataKept

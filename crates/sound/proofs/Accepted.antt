@@ -12,9 +12,9 @@ use Rattle.group.specs.Sizes.{longestRecord, lastNumber, recordKept}
 use Rattle.numbers.proofs.Tests.{within, passed}
 use Rattle.group.specs.declared.Phase.the-variants.{Inside}
 use Rattle.laying.specs.declared.Writer.{Writer}
-use Rattle.writer.specs.State.{isFree, isInside, isOwed, writerSound, lengthKept, remainsKept, noneOpenKept, valueKept, offerKept, endRemainsKept, endsEmpty, recordRefusal, separatorRefusal, endRefusal}
+use Rattle.sound.specs.State.{isFree, isInside, isOwed, writerSound, lengthKept, remainsKept, noneOpenKept, valueKept, offerKept, endRemainsKept, endsEmpty, recordRefusal, separatorRefusal, endRefusal}
 use Rattle.laying.specs.Bounds.{Grown, Ready, Opened, span}
-use Rattle.writer.proofs.SoundLaws.{Sound, sound, chosen}
+use Rattle.sound.proofs.SoundLaws.{Sound, sound, chosen}
 
 -- One entry more has its place in a sound state, whatever its phase.
 pub fits : (s : Writer) → Sound s → span (s .filled) (s .entries + 1) ≤ s .size

@@ -2,8 +2,8 @@
 use borrow.Author.Needs.{needs}
 use mathlib.Core.Path.{sym, _∙_}
 use Rattle.numbers.proofs.Tests.{tests}
-use Rattle.writer.proofs.state.ends_empty.Statement.{statement}
-use Rattle.writer.proofs.state.ends_empty.Tie as tie
+use Rattle.sound.proofs.ends_empty.Statement.{statement}
+use Rattle.sound.proofs.ends_empty.Tie as tie
 
 pub ends-empty-spec : {M : Type 1} → statement M
 ends-empty-spec =

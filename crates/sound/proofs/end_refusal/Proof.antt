@@ -3,9 +3,9 @@ use borrow.Author.Needs.{needs}
 use borrow.Author.Tests.{eq-eqb, ne-eqb, le-leb, lt-leb}
 use Rattle.numbers.proofs.Tests.{fails, holds}
 use mathlib.Core.Path.{sym, _∙_}
-use Rattle.writer.specs.State.{endRefusal}
-use Rattle.writer.proofs.state.end_refusal.Statement.{statement}
-use Rattle.writer.proofs.state.end_refusal.Tie as tie
+use Rattle.sound.specs.State.{endRefusal}
+use Rattle.sound.proofs.end_refusal.Statement.{statement}
+use Rattle.sound.proofs.end_refusal.Tie as tie
 
 pub end-refusal-spec : {M : Type 1} → statement M
 unfolding endRefusal
