@@ -4,4 +4,3 @@ pub mod CallLaws
 pub mod Left
 pub mod Settled
 pub mod Theorems
-pub mod Bench
