@@ -20,14 +20,14 @@ use Rattle.entry.specs.Rules.{mayFollow, standAt, phaseAfter}
 use Rattle.laying.specs.declared.Writer.{Writer}
 use Rattle.writer.specs.declared.WriteAnswer.{WriteAnswer}
 use Rattle.writer.specs.declared.WriteAnswer.the-variants.{Finished, Closed, Refused}
-use Rattle.writer.specs.State.{isInside, endsEmpty}
+use Rattle.sound.specs.State.{isInside, endsEmpty}
 use Rattle.laying.specs.Room.{middleLength}
 use Rattle.laying.specs.Laying.{Desk, desk, layEntry, layData, layPart, moved, laySkip, zeroGap, shut, warnState, payOwed, ready}
 use Rattle.writer.specs.Calls.{Call, Done, call, finished, closed, orRefused, recordAccepted, recordCall, separatorAccepted, separatorCall, endCall}
 use Rattle.writer.specs.Calls.Call.{aRecord, aSeparator, anEnd}
 use Rattle.laying.specs.Bounds.{span}
-use Rattle.writer.proofs.SoundLaws.{Sound}
-use Rattle.writer.proofs.Accepted.{Offered, Separated, Ended, record-accepted, separator-accepted, end-accepted}
+use Rattle.sound.proofs.SoundLaws.{Sound}
+use Rattle.sound.proofs.Accepted.{Offered, Separated, Ended, record-accepted, separator-accepted, end-accepted}
 use Rattle.writer.proofs.CallLaws.{RecordedFree, entire, start, nothing, recorded-free, RecordedInside, part, total, owed, recorded-inside, SeparatorLaid, laid, not-laid, separator-laid, EndLaid, ends-nothing, ends-group, end-laid}
 use Rattle.layout.specs.Items.{Item, Piece}
 use Rattle.layout.specs.Items.Item.{recordItem}

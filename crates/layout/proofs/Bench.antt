@@ -1,4 +1,5 @@
--- Document 01, "Marked P: proved together": the bench table's cases P1 to P12 as one theorem over one list, by computation.
+-- Document 01, "Marked P: proved together": the bench table's cases P1 to P12, and two on b4, as one theorem over one list,
+-- by computation.
 -- Assumes nothing.
 use mathlib.Core.Path.{_≡_, refl}
 use mathlib.Core.List.{map}
@@ -10,7 +11,7 @@ use Rattle.group.specs.State.{runSound, startRefusal}
 use Rattle.entry.specs.Rules.{mayFollow, entryFault}
 use Rattle.entry.specs.Scan.{scan, rowsFrom}
 use Rattle.reader.specs.Answer.{readerStartCall, readRefusal, groupScan, readCall, groupRows}
-use Rattle.writer.specs.State.{roomKept, emptyKept, restKept, dataKept, clearKept, spentKept, writerSound, recordRefusal, separatorRefusal, endRefusal}
+use Rattle.sound.specs.State.{roomKept, emptyKept, restKept, dataKept, clearKept, spentKept, writerSound, recordRefusal, separatorRefusal, endRefusal}
 use Rattle.laying.specs.Room.{room, fitOf}
 use Rattle.laying.specs.Laying.{layEntry, layData, layPart, moved, laySkip, zeroGap, shut, warnState, payOwed, ready}
 use Rattle.writer.specs.Calls.{finished, closed, orRefused, writerStartCall, byFit, recordFree, middle, last, recordInside, recordAccepted, recordCall, separatorAccepted, separatorCall, endAccepted, endCall, call}

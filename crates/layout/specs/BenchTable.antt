@@ -1,9 +1,9 @@
--- Document 01, "Bench table": the cases marked P as one list. Each writing is read back by the read call; each reading is of a
--- run from fresh. What is expected is written out whole: every answer, every byte of every closed group, every row.
+-- Document 01, "Bench table": the cases marked P as one list, with two on b4. Each writing is read back by the read call; each
+-- reading is of a run from fresh. What is expected is written out whole: every answer, every byte of every closed group, every row.
 -- Assumes nothing.
 use Prim.Native.Nat.{ℕ, zero, suc, _+_, _*_}
 use mathlib.Core.List.{List, [], _∷_, _++_}
-use mathlib.Core.Bool.{false}
+use mathlib.Core.Bool.{true, false}
 use lib.ListN.{length, replicate}
 use Rattle.answer.specs.Answer.{numbersTold}
 use Rattle.group.specs.declared.Phase.the-variants as phase
@@ -156,7 +156,7 @@ freeDesk lent number = desk (freshState size number) (replicate size lent)
 abbrev pub freeReader : ℕ → Reader
 freeReader number = read.fresh size number
 
--- A record's bytes from its k-th on, Separator 1, an end; b4 never set.
+-- A record's bytes from its k-th on, Separator 1, an end; none sets b4.
 abbrev pub offer : ℕ → ℕ → Call
 offer k n = aRecord (from k n) false
 
@@ -328,5 +328,37 @@ p12 =
       expected = readings (filling startRows ∷ refusing 11 2 3 ∷ []) insideReader;
     }
 
+-- Beside the table: all entries of a call that sets b4 carry it, those of later calls to the close too, and the next group
+-- begins anew. A refused call sets nothing.
+abbrev pub b4ToTheClose : Case
+b4ToTheClose =
+    record {
+      given = writing other (aRecord (from 1 25) true ∷ offer 25 1 ∷ aSeparator 2 true ∷ separator ∷ aSeparator 1 true ∷ end ∷ []);
+      expected =
+          wrote (closeOf 1 2 24 ∷ ok ∷ refusal 18 0 ∷ ok ∷ ok ∷ closeOf 2 5 0 ∷ [])
+          (image 1 2 (from 1 24 ++ (0x88 ∷ 0 ∷ 0 ∷ 40 ∷ 0x4A ∷ 0 ∷ 0 ∷ 24 ∷ []) ++ information)
+          ∷ image 2 5 (from 25 1 ++ zeros 11 ++ (0x88 ∷ 0 ∷ 0 ∷ 63 ∷ 0x0F ∷ 0 ∷ 0 ∷ 1 ∷ 0x07 ∷ 0 ∷ 0 ∷ 0 ∷ 0x01 ∷ 0 ∷ 0 ∷ 25 ∷ 0x60 ∷ 0 ∷ 0 ∷ 1 ∷ []) ++ information)
+          ∷ [])
+          (freeDesk other 3)
+          (filling startRows ∷ filling (5 ∷ 0 ∷ 1 ∷ 1 ∷ 1 ∷ 25 ∷ 2 ∷ 1 ∷ 0 ∷ 2 ∷ 1 ∷ 1 ∷ 7 ∷ 1 ∷ 63 ∷ []) ∷ [])
+          (freeReader 3);
+    }
+
+-- An owed total carries b4 of the call that lays it; an end that closes nothing leaves b4 clear.
+abbrev pub b4OfAnOwedTotal : Case
+b4OfAnOwedTotal =
+    record {
+      given = writing other (offer 1 45 ∷ anEnd true ∷ separator ∷ offer 25 21 ∷ anEnd true ∷ anEnd true ∷ []);
+      expected =
+          wrote (closeOf 1 2 24 ∷ refusal 17 0 ∷ refusal 17 0 ∷ closeOf 2 2 21 ∷ closeOf 3 2 0 ∷ ok ∷ [])
+          (image 1 2 startGroup
+          ∷ image 2 2 (from 25 21 ++ zeros 3 ++ (0x80 ∷ 0 ∷ 0 ∷ 43 ∷ 0x60 ∷ 0 ∷ 0 ∷ 21 ∷ []) ++ information)
+          ∷ image 3 2 (zeros 24 ++ (0x88 ∷ 0 ∷ 0 ∷ 64 ∷ 0x09 ∷ 0 ∷ 0 ∷ 45 ∷ []) ++ information)
+          ∷ [])
+          (freeDesk other 4)
+          (filling startRows ∷ filling (5 ∷ 0 ∷ 21 ∷ 7 ∷ 21 ∷ 43 ∷ []) ∷ filling (1 ∷ 0 ∷ 45 ∷ 7 ∷ 0 ∷ 64 ∷ []) ∷ [])
+          (freeReader 4);
+    }
+
 unfoldable pub benchTable : List Case
-benchTable = p1 ∷ p2 ∷ p3 ∷ p4 ∷ p5 ∷ p6 ∷ p7 ∷ p8 ∷ p9 ∷ p10 ∷ p11 ∷ p12 ∷ []
+benchTable = p1 ∷ p2 ∷ p3 ∷ p4 ∷ p5 ∷ p6 ∷ p7 ∷ p8 ∷ p9 ∷ p10 ∷ p11 ∷ p12 ∷ b4ToTheClose ∷ b4OfAnOwedTotal ∷ []

@@ -13,7 +13,7 @@ use Rattle.group.specs.declared.Kind.the-variants as kind
 use Rattle.group.specs.declared.Phase.the-variants.{Free, Inside, Owed}
 use Rattle.laying.specs.declared.Fit.{Fit}
 use Rattle.laying.specs.declared.Fit.the-variants as fit
-use Rattle.writer.specs.State.{endsEmpty, recordRefusal, separatorRefusal, endRefusal}
+use Rattle.sound.specs.State.{endsEmpty, recordRefusal, separatorRefusal, endRefusal}
 use Rattle.laying.specs.Room.{room, fitOf, separatorFits, middleLength, lastWithTotal}
 use Rattle.laying.specs.Laying.{Desk, desk, layEntry, layPart, moved, shut, ready}
 use Rattle.writer.specs.Calls.{Done, finished, closed, byFit, recordFree, recordInside, middle, last, recordAccepted, recordCall, separatorAccepted, separatorCall, endAccepted, endCall, told, stateOf}

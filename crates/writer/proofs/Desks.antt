@@ -1,4 +1,4 @@
--- Steps on a state and a group, one after the other, and the two clauses of a call's contract.
+-- Steps on a state and a group, one after the other, and what a call's contract says of them.
 -- Assumes nothing.
 use mathlib.Core.Path.{_≡_, ap, _∙_}
 use mathlib.Core.List.{List}
@@ -8,7 +8,7 @@ use Rattle.group.specs.declared.Phase.{Phase}
 use Rattle.laying.specs.declared.Writer.{Writer}
 use Rattle.writer.specs.declared.WriteAnswer.the-variants.{Closed, Refused}
 use Rattle.laying.specs.Laying.{Desk, desk, moved, movedState, nextState, layEntry, laySkip, zeroGap, shut}
-use Rattle.writer.specs.Calls.{Done, done, closed, orRefused}
+use Rattle.writer.specs.Calls.{Done, done, Meets, closed, orRefused}
 
 -- A state that is moved before a last step f.
 pub move-on : (f : Desk → Done) (p : Phase) (sum rest : ℕ) {m : Writer} (v : Writer) (h : List ℕ) {d : Desk}
@@ -23,7 +23,7 @@ unfolding closed shut laySkip layEntry zeroGap
 close-laid taken w e =
     ap (λ (d : Desk). done (Closed (nextState (d .state)) (d .state .next) (d .state .entries) taken) (zeroGap d .group)) e
 
--- A call that is refused, one that is not, and the two clauses of a call's contract.
+-- A call that is refused, one that is not; an outcome that is the call's meets its contract.
 pub refuse : (k n : ℕ) (w : Desk) (a : Done) → n ≡ k → (n ≡ 0 → ⊥) → done (Refused (w .state) n) (w .group) ≡ orRefused k w a
 unfolding orRefused
 refuse k n w a e h = rw (← e, ne-eqb n 0 h)
@@ -32,5 +32,5 @@ pub accept : (k : ℕ) (w : Desk) (a : Done) → k ≡ 0 → a ≡ orRefused k w
 unfolding orRefused
 accept k w a e = rw (eq-eqb k 0 e)
 
-pub clauses : {d e : Done} → d ≡ e → (d .answer ≡ e .answer) × (d .group ≡ e .group)
-clauses e = (ap (λ (x : Done). x .answer) e, ap (λ (x : Done). x .group) e)
+pub meets : {d e : Done} → d ≡ e → Meets e (d .answer) (d .group)
+meets e = record { answer = ap (λ (x : Done). x .answer) e; group = ap (λ (x : Done). x .group) e }

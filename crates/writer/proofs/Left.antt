@@ -21,12 +21,12 @@ use Rattle.numbers.proofs.Tests.{within, is-within}
 use Rattle.numbers.proofs.Stores.{length-put, drop-put}
 use Rattle.group.proofs.EntryLaws.{length-entry}
 use Rattle.laying.specs.declared.Writer.{Writer}
-use Rattle.writer.specs.State.{isFree, isInside}
+use Rattle.sound.specs.State.{isFree, isInside}
 use Rattle.laying.specs.Laying.{Desk, desk, layEntry, layData, layPart, moved, laySkip, zeroGap, shut, warnState, payOwed, ready}
 use Rattle.writer.specs.Calls.{Done, finished, closed, recordFree, recordAccepted, separatorAccepted, endAccepted, told, stateOf}
 use Rattle.laying.specs.Bounds.{span}
-use Rattle.writer.proofs.SoundLaws.{Nothing, Sound}
-use Rattle.writer.proofs.Accepted.{Accepted, Offered, Separated, Ended, fits}
+use Rattle.sound.proofs.SoundLaws.{Nothing, Sound}
+use Rattle.sound.proofs.Accepted.{Accepted, Offered, Separated, Ended, fits}
 use Rattle.writer.proofs.CallLaws.{RecordedFree, entire, start, nothing, recorded-free, RecordedInside, part, total, owed, recorded-inside, SeparatorLaid, laid, not-laid, separator-laid, EndLaid, ends-nothing, ends-group, end-laid}
 
 -- A group is as long as another, and its information table the same.

@@ -1,9 +1,7 @@
 -- The laws that the proofs of this crate share, and those that the crates above cite.
-pub mod SoundLaws
-pub mod Accepted
 pub mod Desks
 pub mod CallLaws
+pub mod Exits
 pub mod Left
 pub mod Settled
 pub mod Theorems
-pub mod Bench

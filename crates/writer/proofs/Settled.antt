@@ -5,32 +5,28 @@ use mathlib.Core.Bool.{Bool}
 use mathlib.Core.List.{List}
 use Prim.Native.Nat.{ℕ}
 use Rattle.laying.specs.declared.Writer.{Writer}
+use Rattle.laying.specs.Laying.{desk}
 use Rattle.writer.specs.declared.WriterStart.{WriterStart}
 use Rattle.writer.specs.declared.WriteAnswer.{WriteAnswer}
-use Rattle.laying.specs.Laying.{desk}
-use Rattle.writer.specs.Calls.{Done, writerStartCall, recordCall, separatorCall, endCall}
-
--- The two clauses of a contract: the answer, with the state in it, and every byte of the group.
-abbrev pub Meets : Done → WriteAnswer → List ℕ → Type 0
-Meets d answer group = (answer ≡ d .answer) × (group ≡ d .group)
+use Rattle.writer.specs.Calls.{Done, Meets, writerStartCall, recordCall, separatorCall, endCall}
 
 same : {A : Type 0} {x a b : A} → a ≡ x → b ≡ x → a ≡ b
 same e f = e ∙ sym f
 
 settled : {d : Done} {r t : WriteAnswer} {h k : List ℕ} → Meets d r h → Meets d t k → (r ≡ t) × (h ≡ k)
-settled m n = (same (m .0) (n .0), same (m .1) (n .1))
+settled m n = (same (m .answer) (n .answer), same (m .group) (n .group))
 
 pub start-settled : (size first : ℕ) {r t : WriterStart} → r ≡ writerStartCall size first → t ≡ writerStartCall size first → r ≡ t
 start-settled size first e f = same e f
 
 pub record-settled : (bytes : List ℕ) (warn : Bool) (s : Writer) (g : List ℕ) {r t : WriteAnswer} {h k : List ℕ}
     → Meets (recordCall bytes warn (desk s g)) r h → Meets (recordCall bytes warn (desk s g)) t k → (r ≡ t) × (h ≡ k)
-record-settled bytes warn s g m n = settled {d = recordCall bytes warn (desk s g)} m n
+record-settled bytes warn s g m n = settled m n
 
 pub separator-settled : (value : ℕ) (warn : Bool) (s : Writer) (g : List ℕ) {r t : WriteAnswer} {h k : List ℕ}
     → Meets (separatorCall value warn (desk s g)) r h → Meets (separatorCall value warn (desk s g)) t k → (r ≡ t) × (h ≡ k)
-separator-settled value warn s g m n = settled {d = separatorCall value warn (desk s g)} m n
+separator-settled value warn s g m n = settled m n
 
 pub end-settled : (warn : Bool) (s : Writer) (g : List ℕ) {r t : WriteAnswer} {h k : List ℕ}
     → Meets (endCall warn (desk s g)) r h → Meets (endCall warn (desk s g)) t k → (r ≡ t) × (h ≡ k)
-end-settled warn s g m n = settled {d = endCall warn (desk s g)} m n
+end-settled warn s g m n = settled m n

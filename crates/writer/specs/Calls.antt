@@ -1,6 +1,7 @@
 -- Document 01, "Writing": what each call answers and the buffer that it leaves, for every input; and what the firmware is told.
 -- Assumes nothing.
 use Prim.Native.Nat.{ℕ, _+_, _-_}
+use mathlib.Core.Path.{_≡_}
 use mathlib.Core.List.{List}
 use mathlib.Core.Bool.{Bool, false, cond}
 use lib.ListN.{length, take}
@@ -19,7 +20,7 @@ use Rattle.writer.specs.declared.WriteAnswer.{WriteAnswer}
 use Rattle.writer.specs.declared.WriteAnswer.the-variants.{Finished, Closed, Refused}
 use Rattle.laying.specs.declared.Fit.{Fit}
 use Rattle.laying.specs.declared.Fit.the-variants as fit
-use Rattle.writer.specs.State.{endsEmpty, recordRefusal, separatorRefusal, endRefusal}
+use Rattle.sound.specs.State.{endsEmpty, recordRefusal, separatorRefusal, endRefusal}
 use Rattle.laying.specs.Room.{room, fitOf, separatorFits, middleLength, lastWithTotal}
 use Rattle.laying.specs.Laying.{Desk, layEntry, layPart, moved, shut, ready}
 
@@ -31,6 +32,11 @@ pub record Done : Type 0 where
 -- An outcome of the two.
 abbrev pub done : WriteAnswer → List ℕ → Done
 done a g = record { answer = a; group = g }
+
+-- What the contract of a call says: its answer, the state in it with the rest, and every byte of the group that it leaves.
+pub record Meets (d : Done) (a : WriteAnswer) (left : List ℕ) : Type 0 where
+  pub answer : a ≡ d .answer
+  pub group : left ≡ d .group
 
 -- "A call either finishes its work, .."
 unfoldable pub finished : Desk → Done

@@ -1,3 +1,2 @@
--- What a reader of this crate must believe, in document 01's order: when a state is sound and what is refused; the calls.
-pub mod State
+-- What a reader of this crate must believe: what each call answers and leaves, what the firmware is told, what a contract says.
 pub mod Calls

@@ -1,11 +1,10 @@
 // Writes Basic Groups: document 01, "Writing". A state goes in by value and comes back in the answer; the group's buffer is
 // lent. Every input is answered.
 mod calls;
-mod state;
 
 ghost use mathlib.Core.Path.{_≡_};
 ghost use Rattle.laying.specs.Laying.{desk};
-ghost use Rattle.writer.specs.Calls.{writerStartCall, recordCall, separatorCall, endCall};
+ghost use Rattle.writer.specs.Calls.{Meets, writerStartCall, recordCall, separatorCall, endCall};
 use group::Phase;
 use laying::Writer;
 use laying::lay;
@@ -53,10 +52,9 @@ pub fn start(size: u32, first: u32) -> WriterStart
 
 // A record's bytes: whole, or as many as the group takes.
 pub fn record(given: Writer, group: &mut [u8], data: &[u8], warn: bool) -> WriteAnswer
-    ensures answer { λ r. ⌜ r ≡ recordCall (now («data» .entry)) warn (desk given (now (group .entry))) .answer ⌝ }
-    ensures group { λ _. ⌜ now (group .exit) ≡ recordCall (now («data» .entry)) warn (desk given (now (group .entry))) .group ⌝ }
+    ensures { λ r. ⌜ Meets (recordCall (now («data» .entry)) warn (desk given (now (group .entry)))) r (now (group .exit)) ⌝ }
 {
-    let refusal = state::record_refusal(given, group.len(), data.len());
+    let refusal = sound::record_refusal(given, group.len(), data.len());
     if refusal != 0 {
         return WriteAnswer::Refused {
             state: given,
@@ -65,7 +63,7 @@ pub fn record(given: Writer, group: &mut [u8], data: &[u8], warn: bool) -> Write
     }
     let w = lay::ready(given, group, warn);
     let phase = given.phase;
-    if state::is_inside(phase) {
+    if sound::is_inside(phase) {
         return calls::record_inside(w, group, data);
     }
     calls::record_free(w, group, data)
@@ -73,10 +71,9 @@ pub fn record(given: Writer, group: &mut [u8], data: &[u8], warn: bool) -> Write
 
 // Separator 1 is value 0, Separator 2 is value 1.
 pub fn separator(given: Writer, group: &mut [u8], value: u32, warn: bool) -> WriteAnswer
-    ensures answer { λ r. ⌜ r ≡ separatorCall value warn (desk given (now (group .entry))) .answer ⌝ }
-    ensures group { λ _. ⌜ now (group .exit) ≡ separatorCall value warn (desk given (now (group .entry))) .group ⌝ }
+    ensures { λ r. ⌜ Meets (separatorCall value warn (desk given (now (group .entry)))) r (now (group .exit)) ⌝ }
 {
-    let refusal = state::separator_refusal(given, group.len(), value);
+    let refusal = sound::separator_refusal(given, group.len(), value);
     if refusal != 0 {
         return WriteAnswer::Refused {
             state: given,
@@ -89,17 +86,16 @@ pub fn separator(given: Writer, group: &mut [u8], value: u32, warn: bool) -> Wri
 
 // The end of the run's data: a group that holds an entry, or that a total is owed to, is closed.
 pub fn end(given: Writer, group: &mut [u8], warn: bool) -> WriteAnswer
-    ensures answer { λ r. ⌜ r ≡ endCall warn (desk given (now (group .entry))) .answer ⌝ }
-    ensures group { λ _. ⌜ now (group .exit) ≡ endCall warn (desk given (now (group .entry))) .group ⌝ }
+    ensures { λ r. ⌜ Meets (endCall warn (desk given (now (group .entry)))) r (now (group .exit)) ⌝ }
 {
-    let refusal = state::end_refusal(given, group.len());
+    let refusal = sound::end_refusal(given, group.len());
     if refusal != 0 {
         return WriteAnswer::Refused {
             state: given,
             refusal,
         };
     }
-    if state::ends_empty(given) {
+    if sound::ends_empty(given) {
         return WriteAnswer::Finished(given);
     }
     let w = lay::ready(given, group, warn);

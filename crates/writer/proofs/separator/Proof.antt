@@ -1,13 +1,12 @@
 -- `separator` meets its contract: a refusal leaves all as it was, and no refusal leaves what the steps require. Assumes nothing.
 use borrow.Author.Needs.{needs}
 use native.Mathlib.Omega.{arith}
-use mathlib.Core.Path.{_≡_, sym, ap, _∙_}
-use Rattle.laying.specs.Laying.{desk, ready}
-use Rattle.writer.specs.State.{separatorRefusal}
-use Rattle.writer.specs.Calls.{separatorAccepted, separatorCall}
-use Rattle.writer.proofs.Desks.{refuse, accept, clauses}
-use Rattle.writer.proofs.Accepted.{is-ready, Separated, separator-accepted}
+use mathlib.Core.Path.{_≡_, sym, _∙_}
 use lib.ListN.{length}
+use Rattle.laying.specs.Laying.{desk}
+use Rattle.sound.specs.State.{separatorRefusal}
+use Rattle.sound.proofs.Accepted.{is-ready, Separated, separator-accepted}
+use Rattle.writer.proofs.Exits.{separator-refused, separator-done}
 use Rattle.writer.proofs.separator.Statement.{statement}
 use Rattle.writer.proofs.separator.Tie as tie
 
@@ -19,25 +18,18 @@ known : (c : tie.Else1) → Separated (c .before .before .before .args .given) (
 known c = separator-accepted _ _ _ (none c)
 
 refused : tie.Need-returns
-unfolding separatorCall
 refused c =
     let a = c .before .before .before .args in
-    let w = desk (a .given) (a .group .now) in
-    let n = c .before .separator-refusal in
-    clauses (refuse _ (n .result) w (separatorAccepted (a .value) (ready (a .warn) w)) (n .ensures) (c .if1 .taken))
+    separator-refused (a .value) (a .warn) (desk (a .given) (a .group .now)) (c .before .separator-refusal .ensures) (c .if1 .taken)
 
 separator-requires : tie.Need-separator-requires
 separator-requires c κs = omega (arith, known (c .before .before .before .before .before) .accepted, c .before .before .before .ready .ensures .1 .0)
 
 laid : tie.Need-returns-2
-unfolding separatorCall
 laid c =
-    let a = c .before .before .before .before .before .before .before .before .before .before .before .args in
-    let w = desk (a .given) (a .group .now) in
-    clauses
-    (c .before .before .separator .ensures
-    ∙ ap (separatorAccepted (a .value)) (c .before .before .before .before .before .before .ready .ensures .0)
-    ∙ accept _ w (separatorAccepted (a .value) (ready (a .warn) w)) (none (c .before .before .before .before .before .before .before .before)))
+    let r = c .before .before .before .before .before .before in
+    let a = r .before .before .before .before .before .args in
+    separator-done (a .value) (a .warn) (desk (a .given) (a .group .now)) (none (r .before .before)) (r .ready .ensures .0) (c .before .before .separator .ensures)
 
 pub separator-spec : {M : Type 1} → statement M
 separator-spec =
