@@ -1,7 +1,7 @@
 -- Laws of the one shape of a call: one that its lengths refuse, one that goes on, and what is left in slices one by one.
 -- Assumes nothing.
 use mathlib.Core.Path.{_≡_, refl, sym, ap, _∙_}
-use mathlib.Core.Bool.{Bool, true, false}
+use mathlib.Core.Bool.{Bool, true, false, true≢false}
 use mathlib.Core.List.{List, [], _∷_}
 use Prim.Native.Nat.{ℕ}
 use native.Mathlib.Omega.{arith}
@@ -13,7 +13,7 @@ use Rattle.numbers.proofs.Tests.{both}
 use Rattle.answer.specs.declared.Told.{Told}
 use Rattle.answer.specs.declared.Told.the-variants.{Accepted, RefusedAt}
 use Rattle.answer.specs.Answer.{numbersTold, refusalTold, ifAccepted}
-use Rattle.slices.specs.Call.{Left, left, slice, answerLength, lengthsKept, called, Tells}
+use Rattle.slices.specs.Call.{Left, left, slice, answerLength, lengthsKept, ofMeaning, called, Tells, Refuses}
 
 -- Two outcomes that meet a call's contract, which is that what it leaves is so and so, coincide: the returned number and every byte
 -- of every slice that it may write.
@@ -43,6 +43,19 @@ pub answered : {A : Type 0} (told : A → Told) {kept : Bool} {a b : A} {t : Tol
     → kept ≡ true → a ≡ b → t ≡ told a → lent ≡ ifAccepted (told a) new old → Tells t refusal after → left refusal lent after ≡ called kept (told b) new old answer
 answered {A} told {kept} {a} new old answer k e f l t =
     went-on (told a) new old answer k l (rw f at t) ∙ ap (λ (x : A). called kept (told x) new old answer) e
+
+-- The tests before a call, where they refuse it and where they do not.
+pub refused-before : (kept meant : Bool) (told : Told) (new old : List (List ℕ)) (answer : List ℕ) {r : Bool} {after : List ℕ}
+    → Refuses kept meant answer r after → r ≡ true → left 1 old after ≡ called kept (ofMeaning meant told) new old answer
+unfolding called
+refused-before true true told new old answer h e = absurd (true≢false (sym e ∙ h .refuses))
+refused-before true false told new old answer h e = rw (h .numbers)
+refused-before false meant told new old answer h e = rw (h .numbers)
+
+pub let-by : (kept meant : Bool) {answer after : List ℕ} {r : Bool} → Refuses kept meant answer r after → r ≡ false → (kept ≡ true) × ((meant ≡ true) × (after ≡ answer))
+let-by true true h e = (refl, (refl, h .numbers))
+let-by true false h e = absurd (true≢false (sym (h .refuses) ∙ e))
+let-by false meant h e = absurd (true≢false (sym (h .refuses) ∙ e))
 
 -- No slice, and one more.
 pub none-lent : (told : Told) → _≡_ {A = List (List ℕ)} [] (ifAccepted told [] [])

@@ -4,7 +4,7 @@
 use Prim.Native.Nat.{ℕ}
 use mathlib.Core.Path.{_≡_}
 use mathlib.Core.List.{List, []}
-use mathlib.Core.Bool.{Bool, cond, _&&_}
+use mathlib.Core.Bool.{Bool, cond, not, _&&_}
 use lib.Dec.{eqb}
 use lib.ListN.{length, getD}
 use Rattle.numbers.specs.Numbers.{inBytes}
@@ -51,3 +51,8 @@ called kept told new old answer =
 pub record Tells (told : Told) (refusal : ℕ) (answer : List ℕ) : Type 0 where
   pub returns : refusal ≡ refusalTold told
   pub numbers : answer ≡ inBytes (numbersTold told)
+
+-- What the tests before a call do: whether they refuse it, and the answer slice, in which a number without meaning is told.
+pub record Refuses (kept meant : Bool) (old : List ℕ) (refused : Bool) (answer : List ℕ) : Type 0 where
+  pub refuses : refused ≡ not (kept && meant)
+  pub numbers : answer ≡ cond (kept && not meant) (inBytes (numbersTold (RefusedAt 1 0))) old

@@ -15,8 +15,8 @@ use Rattle.group.proofs.StateLaws.{run-of-sound, sum-small}
 use Rattle.reader.specs.declared.Reader.{Reader}
 use Rattle.reader.specs.Answer as reader
 use Rattle.laying.specs.declared.Writer.{Writer}
-use Rattle.writer.specs.State.{isFree, isInside, writerSound}
-use Rattle.writer.proofs.SoundLaws.{Sound, sound}
+use Rattle.sound.specs.State.{isFree, isInside, writerSound}
+use Rattle.sound.proofs.SoundLaws.{Sound, sound}
 use Rattle.states.specs.States.{readerLength, writerLength, phaseNumber, phaseMeant, b4Number, b4Meant, readerOf, readerNumbers, readerBytes, readerMeant, writerOf, writerNumbers, writerBytes, writerMeant}
 use Rattle.states.proofs.NumberLaws.{phase-of-number, number-of-phase, b4-of-number, number-of-b4}
 

@@ -80,9 +80,8 @@ pub fn reader_of(slice: &[u8]) -> Reader
     }
 }
 
-// The state that a writer's slice holds. What it has in common with a reader's is handed over: four numbers are few enough to
-// be read where the call is.
-pub fn writer_of(run: Reader, slice: &[u8]) -> Writer
+// A writer's state from its slice and what it has in common with a reader's.
+fn writer_behind(run: Reader, slice: &[u8]) -> Writer
     requires { ⌜ length (now slice) ≡ writerLength ⌝ }
     requires { ⌜ run ≡ readerOf (now slice) ⌝ }
     ensures { λ r. ⌜ r ≡ writerOf (now (slice .entry)) ⌝ }
@@ -98,6 +97,15 @@ pub fn writer_of(run: Reader, slice: &[u8]) -> Writer
         filled: numbers::number_at(slice, 16),
         entries: numbers::number_at(slice, 20),
     }
+}
+
+// The state that a writer's slice holds.
+pub fn writer_of(slice: &[u8]) -> Writer
+    requires { ⌜ length (now slice) ≡ writerLength ⌝ }
+    ensures { λ r. ⌜ r ≡ writerOf (now (slice .entry)) ⌝ }
+{
+    let run = reader_of(slice);
+    writer_behind(run, slice)
 }
 
 // A number from index `at` on. One that stands there already is not stored again: the test keeps its four byte stores apart

@@ -21,7 +21,7 @@ use Rattle.laying.specs.declared.WriteAnswer.the-variants.{Finished, Closed, Re
 use Rattle.laying.specs.Laying.{Desk, desk, layEntry, layData, layPart, moved, warnState, payOwed, ready}
 use Rattle.laying.specs.Calls.{Done, done, finished, closed, orRefused, freshState, writerStartCall, recordAccepted, recordCall, separatorAccepted, separatorCall, endAccepted, endCall, Call, call}
 use Rattle.laying.specs.Calls.Call.{aRecord, aSeparator, anEnd}
-use Rattle.writer.proofs.SoundLaws.{Sound}
+use Rattle.sound.proofs.SoundLaws.{Sound}
 use Rattle.writer.proofs.Accepted.{Offered, fits, record-accepted, separator-accepted, end-accepted}
 use Rattle.writer.proofs.CallLaws.{RecordedFree, recorded-free, RecordedInside, recorded-inside, SeparatorLaid, separator-laid, EndLaid, end-laid}
 
