@@ -1,8 +1,9 @@
 // The lines that are printed, added to a text one after the other. Each function answers where what it added ends.
 ghost use Prim.Native.Nat.{_+_, _*_, _≤_};
+ghost use mathlib.Core.Path.{_≡_};
 ghost use lib.ListN.{length};
 ghost use Rattle.lines.specs.Added.{Added};
-ghost use Rattle.lines.specs.Text.{decimal, kindName, phaseName, field, groupLine, rowLine, rowLines, groupLines, refusalLine, endLine};
+ghost use Rattle.lines.specs.Text.{decimal, kindName, namesBelow, phaseName, field, groupLine, rowLine, rowLines, groupLines, refusalLine, endLine};
 use group::Phase;
 use numbers::bytes::put_bytes;
 
@@ -34,21 +35,32 @@ fn add_field(text: &mut [u8], at: usize, n: u32) -> usize
     add_number(text, next, n)
 }
 
+// How many bytes the names of the kinds below kind k have together.
+fn names_below(k: u64) -> usize
+    ensures { λ r. ⌜ r ≡ namesBelow k ⌝ }
+{
+    match k {
+        0 => 0,
+        1 => 0,
+        2 => 5,
+        3 => 14,
+        4 => 20,
+        5 => 25,
+        6 => 29,
+        7 => 35,
+        _ => 39,
+    }
+}
+
 // The name of a row's kind.
 fn add_kind(text: &mut [u8], at: usize, kind: u32) -> usize
     requires { ⌜ at + 9 ≤ length (now text) ⌝ }
     ensures { λ r. ⌜ Added 9 (now (text .entry)) at (kindName kind) (now (text .exit)) r ⌝ }
 {
-    match kind {
-        1 => add(text, at, b"total"),
-        2 => add(text, at, b"separator"),
-        3 => add(text, at, b"middle"),
-        4 => add(text, at, b"start"),
-        5 => add(text, at, b"last"),
-        6 => add(text, at, b"entire"),
-        7 => add(text, at, b"skip"),
-        _ => at,
-    }
+    let names = *b"totalseparatormiddlestartlastentireskip";
+    let from = names_below(kind as u64);
+    let to = names_below(kind as u64 + 1);
+    add(text, at, &names[from..to])
 }
 
 // The name of a phase.
