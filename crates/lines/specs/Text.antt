@@ -27,7 +27,11 @@ decimal n = decimalIn 10 n
 
 -- A space and a number.
 unfoldable pub field : ℕ → List ℕ
-field n = (32 ∷ []) ++ decimal n
+field n = ascii " " ++ decimal n
+
+-- A word, then a space and a number.
+unfoldable pub labelled : List ℕ → ℕ → List ℕ
+labelled word n = word ++ field n
 
 -- A newline.
 abbrev pub newline : List ℕ
@@ -70,8 +74,7 @@ phaseName Owed = ascii "owed"
 
 -- "a line `group`, number, `entries`, count"
 unfoldable pub groupLine : ℕ → ℕ → List ℕ
-groupLine number entries =
-    ascii "group" ++ (field number ++ (ascii " entries" ++ (field entries ++ newline)))
+groupLine number entries = labelled (ascii "group") number ++ (labelled (ascii " entries") entries ++ newline)
 
 -- "then per row name, offset, count"
 unfoldable pub rowLine : ℕ → ℕ → ℕ → List ℕ
@@ -89,8 +92,7 @@ groupLines number entries rows = groupLine number entries ++ rowLines entries ro
 
 -- "A refusal prints `refused R at K`"
 unfoldable pub refusalLine : ℕ → ℕ → List ℕ
-refusalLine number place =
-    ascii "refused" ++ (field number ++ (ascii " at" ++ (field place ++ newline)))
+refusalLine number place = labelled (ascii "refused") number ++ (labelled (ascii " at") place ++ newline)
 
 -- "`end`, then `free`, `inside` or `owed`, then the sum"
 unfoldable pub endLine : Phase → ℕ → List ℕ

@@ -1,9 +1,10 @@
 // The lines that are printed, added to a text one after the other. Each function answers where what it added ends.
 ghost use Prim.Native.Nat.{_+_, _*_, _≤_};
 ghost use mathlib.Core.Path.{_≡_};
+ghost use mathlib.Core.List.{[], _∷_};
 ghost use lib.ListN.{length};
 ghost use Rattle.lines.specs.Added.{Added};
-ghost use Rattle.lines.specs.Text.{decimal, kindName, namesBelow, phaseName, field, groupLine, rowLine, rowLines, groupLines, refusalLine, endLine};
+ghost use Rattle.lines.specs.Text.{decimal, kindName, namesBelow, phaseName, field, labelled, groupLine, rowLine, rowLines, groupLines, refusalLine, endLine};
 use group::Phase;
 use numbers::bytes::put_bytes;
 
@@ -14,6 +15,15 @@ fn add(text: &mut [u8], at: usize, word: &[u8]) -> usize
 {
     put_bytes(text, at, word);
     at + word.len()
+}
+
+// One byte.
+fn add_byte(text: &mut [u8], at: usize, byte: u8) -> usize
+    requires { ⌜ at + 1 ≤ length (now text) ⌝ }
+    ensures { λ r. ⌜ Added 1 (now (text .entry)) at (byte ∷ []) (now (text .exit)) r ⌝ }
+{
+    text[at] = byte;
+    at + 1
 }
 
 // A number in decimal.
@@ -31,8 +41,17 @@ fn add_field(text: &mut [u8], at: usize, n: u32) -> usize
     requires { ⌜ at + 11 ≤ length (now text) ⌝ }
     ensures { λ r. ⌜ Added 11 (now (text .entry)) at (field n) (now (text .exit)) r ⌝ }
 {
-    let next = add(text, at, b" ");
+    let next = add_byte(text, at, b' ');
     add_number(text, next, n)
+}
+
+// A word, then a space and a number.
+fn add_labelled(text: &mut [u8], at: usize, word: &[u8], n: u32) -> usize
+    requires { ⌜ at + (length (now word) + 11) ≤ length (now text) ⌝ }
+    ensures { λ r. ⌜ Added (length (now (word .entry)) + 11) (now (text .entry)) at (labelled (now (word .entry)) n) (now (text .exit)) r ⌝ }
+{
+    let said = add(text, at, word);
+    add_field(text, said, n)
 }
 
 // How many bytes the names of the kinds below kind k have together.
@@ -83,7 +102,7 @@ fn add_row(text: &mut [u8], at: usize, kind: u32, offset: u32, count: u32) -> us
     let named = add_kind(text, at, kind);
     let reached = add_field(text, named, offset);
     let counted = add_field(text, reached, count);
-    add(text, counted, b"\n")
+    add_byte(text, counted, b'\n')
 }
 
 // The lines of the first n rows.
@@ -105,11 +124,9 @@ fn add_head(text: &mut [u8], at: usize, number: u32, entries: u32) -> usize
     requires { ⌜ at + 36 ≤ length (now text) ⌝ }
     ensures { λ r. ⌜ Added 36 (now (text .entry)) at (groupLine number entries) (now (text .exit)) r ⌝ }
 {
-    let word = add(text, at, b"group");
-    let numbered = add_field(text, word, number);
-    let second = add(text, numbered, b" entries");
-    let counted = add_field(text, second, entries);
-    add(text, counted, b"\n")
+    let numbered = add_labelled(text, at, b"group", number);
+    let counted = add_labelled(text, numbered, b" entries", entries);
+    add_byte(text, counted, b'\n')
 }
 
 // All lines of a group.
@@ -126,11 +143,9 @@ pub fn add_refusal(text: &mut [u8], at: usize, number: u32, place: u32) -> usize
     requires { ⌜ at + 33 ≤ length (now text) ⌝ }
     ensures { λ r. ⌜ Added 33 (now (text .entry)) at (refusalLine number place) (now (text .exit)) r ⌝ }
 {
-    let word = add(text, at, b"refused");
-    let numbered = add_field(text, word, number);
-    let second = add(text, numbered, b" at");
-    let placed = add_field(text, second, place);
-    add(text, placed, b"\n")
+    let numbered = add_labelled(text, at, b"refused", number);
+    let placed = add_labelled(text, numbered, b" at", place);
+    add_byte(text, placed, b'\n')
 }
 
 // The line that ends a run.
@@ -141,5 +156,5 @@ pub fn add_end(text: &mut [u8], at: usize, phase: Phase, sum: u32) -> usize
     let word = add(text, at, b"end ");
     let named = add_phase(text, word, phase);
     let summed = add_field(text, named, sum);
-    add(text, summed, b"\n")
+    add_byte(text, summed, b'\n')
 }

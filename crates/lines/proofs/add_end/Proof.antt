@@ -14,7 +14,11 @@ add-end-spec =
     (λ c κs. search needs)
     (λ c κs. search needs)
     (λ c κs. search needs)
-    (λ c. search needs)
     (λ c κs. search needs)
     (λ c. search needs)
-    (λ c. added-then (c .before .before .before .before .before .before .before .before .before .before .before .before .before .before .before .add .ensures) (added-then (c .before .before .before .before .before .before .before .before .before .before .before .add-phase .ensures) (added-then (c .before .before .before .before .before .before .before .add-field .ensures) (c .before .before .add2 .ensures)))))
+    (λ c.
+    let four = c .before .before in
+    let three = four .before .before .before .before in
+    let two = three .before .before .before .before in
+    let one = two .before .before .before .before in
+    added-then (one .add .ensures) (added-then (two .add-phase .ensures) (added-then (three .add-field .ensures) (four .add-byte .ensures)))))
