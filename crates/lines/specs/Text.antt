@@ -66,12 +66,6 @@ lengthBelow (word ∷ words) (suc k) = length word + lengthBelow words k
 unfoldable pub namesBelow : ℕ → ℕ
 namesBelow kind = lengthBelow kindNames kind
 
--- The words `free`, `inside`, `owed`.
-unfoldable pub phaseName : Phase → List ℕ
-phaseName Free = ascii "free"
-phaseName Inside = ascii "inside"
-phaseName Owed = ascii "owed"
-
 -- "a line `group`, number, `entries`, count"
 unfoldable pub groupLine : ℕ → ℕ → List ℕ
 groupLine number entries = labelled (ascii "group") number ++ (labelled (ascii " entries") entries ++ newline)
@@ -95,5 +89,10 @@ unfoldable pub refusalLine : ℕ → ℕ → List ℕ
 refusalLine number place = labelled (ascii "refused") number ++ (labelled (ascii " at") place ++ newline)
 
 -- "`end`, then `free`, `inside` or `owed`, then the sum"
+unfoldable pub ending : Phase → List ℕ
+ending Free = ascii "end free"
+ending Inside = ascii "end inside"
+ending Owed = ascii "end owed"
+
 unfoldable pub endLine : Phase → ℕ → List ℕ
-endLine phase sum = ascii "end " ++ (phaseName phase ++ (field sum ++ newline))
+endLine phase sum = ending phase ++ (field sum ++ newline)

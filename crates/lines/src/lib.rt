@@ -4,7 +4,7 @@ ghost use mathlib.Core.Path.{_≡_};
 ghost use mathlib.Core.List.{[], _∷_};
 ghost use lib.ListN.{length};
 ghost use Rattle.lines.specs.Added.{Added};
-ghost use Rattle.lines.specs.Text.{decimal, kindName, namesBelow, phaseName, field, labelled, groupLine, rowLine, rowLines, groupLines, refusalLine, endLine};
+ghost use Rattle.lines.specs.Text.{decimal, kindName, namesBelow, ending, field, labelled, groupLine, rowLine, rowLines, groupLines, refusalLine, endLine};
 use group::Phase;
 use numbers::bytes::put_bytes;
 
@@ -82,15 +82,15 @@ fn add_kind(text: &mut [u8], at: usize, kind: u32) -> usize
     add(text, at, &names[from..to])
 }
 
-// The name of a phase.
-fn add_phase(text: &mut [u8], at: usize, phase: Phase) -> usize
-    requires { ⌜ at + 6 ≤ length (now text) ⌝ }
-    ensures { λ r. ⌜ Added 6 (now (text .entry)) at (phaseName phase) (now (text .exit)) r ⌝ }
+// The words that end a run in a phase.
+fn add_ending(text: &mut [u8], at: usize, phase: Phase) -> usize
+    requires { ⌜ at + 10 ≤ length (now text) ⌝ }
+    ensures { λ r. ⌜ Added 10 (now (text .entry)) at (ending phase) (now (text .exit)) r ⌝ }
 {
     match phase {
-        Phase::Free => add(text, at, b"free"),
-        Phase::Inside => add(text, at, b"inside"),
-        Phase::Owed => add(text, at, b"owed"),
+        Phase::Free => add(text, at, b"end free"),
+        Phase::Inside => add(text, at, b"end inside"),
+        Phase::Owed => add(text, at, b"end owed"),
     }
 }
 
@@ -153,8 +153,7 @@ pub fn add_end(text: &mut [u8], at: usize, phase: Phase, sum: u32) -> usize
     requires { ⌜ at + 22 ≤ length (now text) ⌝ }
     ensures { λ r. ⌜ Added 22 (now (text .entry)) at (endLine phase sum) (now (text .exit)) r ⌝ }
 {
-    let word = add(text, at, b"end ");
-    let named = add_phase(text, word, phase);
-    let summed = add_field(text, named, sum);
+    let ended = add_ending(text, at, phase);
+    let summed = add_field(text, ended, sum);
     add_byte(text, summed, b'\n')
 }

@@ -10,15 +10,12 @@ unfolding endLine
 add-end-spec =
     tie.close
     (tie.spec
-    (λ c. search needs)
-    (λ c κs. search needs)
     (λ c κs. search needs)
     (λ c κs. search needs)
     (λ c κs. search needs)
     (λ c. search needs)
     (λ c.
-    let four = c .before .before in
-    let three = four .before .before .before .before in
+    let three = c .before .before in
     let two = three .before .before .before .before in
     let one = two .before .before .before .before in
-    added-then (one .add .ensures) (added-then (two .add-phase .ensures) (added-then (three .add-field .ensures) (four .add-byte .ensures)))))
+    added-then (one .add-ending .ensures) (added-then (two .add-field .ensures) (three .add-byte .ensures))))
