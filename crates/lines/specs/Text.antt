@@ -71,7 +71,7 @@ unfoldable pub groupLine : ℕ → ℕ → List ℕ
 groupLine number entries = labelled (ascii "group") number ++ (labelled (ascii " entries") entries ++ newline)
 
 -- "then per row name, offset, count"
-unfoldable pub rowLine : ℕ → ℕ → ℕ → List ℕ
+unfoldable pub rowLine : (kind offset count : ℕ) → List ℕ
 rowLine kind offset count = kindName kind ++ (field offset ++ (field count ++ newline))
 
 -- The lines of the first n rows, three numbers each.

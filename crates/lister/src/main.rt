@@ -1,5 +1,5 @@
 // The bench program: reads a run from standard input and prints what its groups hold. Document 01, "Bench program". What the
-// sections say and how each line reads are proved in `sections` and `text`; here they are read, judged and written.
+// sections say and how each line reads are proved in `sections` and `lines`; here they are read, judged and written.
 use group::Phase;
 use libc::STDIN_FILENO;
 use libc::STDOUT_FILENO;
@@ -9,7 +9,7 @@ use reader::ReaderStart;
 use sections::Sections;
 ghost use Prim.Native.Nat.{_+_, _*_, _≤_};
 ghost use lib.ListN.{length};
-ghost use Rattle.sections.specs.Sections.{Within};
+ghost use Rattle.sections.specs.Sections.{largestSize, longestSections, InRange, Within};
 
 // The longest sections: 16 bytes, and a pair for each of 1,024 groups.
 const SECTIONS_LENGTH: usize = 4112;
@@ -84,7 +84,7 @@ fn tell_group(reader: Reader, image: &[u8], number: u32, entries: u32) -> Listed
 
 // Reads one image, and goes on to its group where the input has all of it.
 fn list_group(reader: Reader, size: usize, number: u32, entries: u32) -> Listed
-    requires { ⌜ size ≤ 4096 ⌝ }
+    requires { ⌜ size ≤ largestSize ⌝ }
 {
     let mut image = io::buffer();
     if !read_whole(&mut image[..size]) {
@@ -107,7 +107,7 @@ fn list_end(reader: Reader) {
 
 // The groups one by one, until one stops the run.
 fn list_groups(reader: Reader, size: usize, groups: usize, bytes: &[u8])
-    requires { ⌜ (size ≤ 4096) × (12 + 4 * groups ≤ length (now bytes)) ⌝ }
+    requires { ⌜ (size ≤ largestSize) × (12 + 4 * groups ≤ length (now bytes)) ⌝ }
 {
     let mut state = reader;
     let mut i = 0;
@@ -128,7 +128,7 @@ fn list_groups(reader: Reader, size: usize, groups: usize, bytes: &[u8])
 
 // The run after its sections: the first pair's number starts it.
 fn list_run(size: u32, groups: u32, bytes: &[u8])
-    requires { ⌜ (size ≤ 4096) × ((1 ≤ groups) × (12 + 4 * groups ≤ length (now bytes))) ⌝ }
+    requires { ⌜ InRange size groups × (12 + 4 * groups ≤ length (now bytes)) ⌝ }
 {
     let first = sections::pair_at(bytes, 0);
     match Reader::start(size, first.number) {
@@ -139,7 +139,7 @@ fn list_run(size: u32, groups: u32, bytes: &[u8])
 
 // Reads section after section as far as they are in range, and says what they are where that ends.
 fn read_sections(bytes: &mut [u8]) -> Sections
-    requires { ⌜ 4112 ≤ length (now bytes) ⌝ }
+    requires { ⌜ longestSections ≤ length (now bytes) ⌝ }
     ensures { λ r. ⌜ Within (now (bytes .exit)) r ⌝ }
 {
     let mut have = 0;

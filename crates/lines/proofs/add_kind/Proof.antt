@@ -1,9 +1,10 @@
 -- `add_kind` meets its contract: what is added is the part of all names where the kind's stands. Assumes nothing.
 use borrow.Author.Needs.{needs}
 use Prim.Native.Nat.{ℕ, _+_, _≤_}
+use mathlib.Core.Path.{refl}
 use native.Mathlib.Omega.{arith}
 use Rattle.lines.proofs.AddedLaws.{added-as}
-use Rattle.lines.proofs.NameLaws.{Stands, stands}
+use Rattle.lines.proofs.NameLaws.{Stands, stands, part-same, part-few}
 use Rattle.lines.proofs.add_kind.Statement.{statement}
 use Rattle.lines.proofs.add_kind.Tie as tie
 
@@ -23,6 +24,6 @@ add-kind-spec =
     (λ c. part (c .before) .order)
     (λ c. part (c .before .before) .order)
     (λ c. part (c .before .before) .inside)
-    (λ c κs. room _ _ _ (c .before .before .before .before .before .before .before .before .pre) (part (c .before .before .before) .few))
+    (λ c κs. room _ _ _ (c .before .before .before .before .before .before .before .before .pre) (part-few _ (part (c .before .before .before))))
     (λ c. search needs)
-    (λ c. let p = part (c .before .before .before .before .before .before) in added-as (p .same) (p .few) (c .before .before .add .ensures)))
+    (λ c. let p = part (c .before .before .before .before .before .before) in added-as (part-same _ refl p) (part-few _ p) (c .before .before .add .ensures)))
