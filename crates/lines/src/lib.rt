@@ -1,4 +1,5 @@
-// The lines that are printed, added to a text one after the other. Each function answers where what it added ends.
+// The lines that are printed, added to a text one after the other. Each function answers where what it added ends, and has a
+// `requires` for the room that it needs at most.
 ghost use Prim.Native.Nat.{_+_, _*_, _≤_};
 ghost use mathlib.Core.Path.{_≡_};
 ghost use mathlib.Core.List.{[], _∷_};

@@ -6,8 +6,8 @@ use borrow.Author.Needs.{needs}
 use native.Mathlib.Omega.{arith}
 use lib.ListN.{length, drop, length-append}
 use lib.Seq.{length-take-le}
-use Rattle.lister.proofs.list_group.Statement.{statement}
-use Rattle.lister.proofs.list_group.Tie as tie
+use Rattle.lister.proofs.listing.list_group.Statement.{statement}
+use Rattle.lister.proofs.listing.list_group.Tie as tie
 
 -- The buffer after the image was read into it is no shorter than the image.
 room : (c : tie.Else1) → c .before .before .before .before .before .args .size ≤ length (c .before .before .read-whole .last .0 ++ drop (c .before .before .before .before .before .args .size) (c .before .before .before .before .buffer .result))

@@ -2,8 +2,8 @@
 use borrow.Author.Needs.{needs}
 use Prim.Native.Nat.{_-_, _≤_}
 use native.Mathlib.Omega.{arith}
-use Rattle.lister.proofs.list_groups.Statement.{statement}
-use Rattle.lister.proofs.list_groups.Tie as tie
+use Rattle.lister.proofs.listing.list_groups.Statement.{statement}
+use Rattle.lister.proofs.listing.list_groups.Tie as tie
 
 abbrev Inv-loop : tie.InvT-loop
 Inv-loop size groups bytes state₀ i₀ state i = i ≤ groups

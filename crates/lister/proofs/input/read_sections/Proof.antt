@@ -5,22 +5,23 @@ use borrow.Author.Needs.{needs}
 use native.Mathlib.Omega.{arith}
 use lib.ListN.{length, take}
 use lib.Seq.{length-take-le}
+use Rattle.sections.specs.Sections.{longestSections}
 use Rattle.sections.proofs.SectionLaws.{next-ahead, whole-in-range}
-use Rattle.lister.proofs.read_sections.Statement.{statement}
-use Rattle.lister.proofs.read_sections.Tie as tie
+use Rattle.lister.proofs.input.read_sections.Statement.{statement}
+use Rattle.lister.proofs.input.read_sections.Tie as tie
 
 abbrev Inv-loop : tie.InvT-loop
-Inv-loop bytes₀ have₀ bytes have = (have ≤ 4112) × (length bytes ≡ length bytes₀)
+Inv-loop bytes₀ have₀ bytes have = (have ≤ longestSections) × (length bytes ≡ length bytes₀)
 
 abbrev μ-loop : tie.MeasureT-loop
-μ-loop bytes₀ have₀ bytes have = 4112 - have
+μ-loop bytes₀ have₀ bytes have = longestSections - have
 
 -- The bytes that are judged are those that were read.
 long : (c : tie.At-loop Inv-loop μ-loop) → length (take (c .loop .have) (c .loop .bytes)) ≡ c .loop .have
 long c = length-take-le (c .loop .have) (c .loop .bytes) (omega arith)
 
 ahead : (c : tie.After-known-told Inv-loop μ-loop)
-    → (c .before .before .before .before .before .loop .have < c .before .to .given .0 .0) × (c .before .to .given .0 .0 ≤ 4112)
+    → (c .before .before .before .before .before .loop .have < c .before .to .given .0 .0) × (c .before .to .given .0 .0 ≤ longestSections)
 ahead c =
     let h = next-ahead _ _ _ (c .before .before .before .sections-of .ensures .1) (c .before .to .given .1) in
     (omega (arith, h .0, long (c .before .before .before .before .before)), h .1)

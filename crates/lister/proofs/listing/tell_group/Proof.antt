@@ -3,8 +3,8 @@ use mathlib.Core.Path.{sym, _∙_}
 use borrow.Author.Needs.{needs}
 use native.Mathlib.Omega.{arith}
 use Rattle.reader.proofs.Accepted.{accepted}
-use Rattle.lister.proofs.tell_group.Statement.{statement}
-use Rattle.lister.proofs.tell_group.Tie as tie
+use Rattle.lister.proofs.listing.tell_group.Statement.{statement}
+use Rattle.lister.proofs.listing.tell_group.Tie as tie
 
 say-group-requires : tie.Need-say-group-requires
 say-group-requires c κs =
