@@ -7,7 +7,7 @@ use Prim.Native.String as text
 use mathlib.Core.List.{List, [], _∷_, _++_}
 use mathlib.Core.Bool.{cond}
 use lib.Dec.{ltb}
-use lib.ListN.{length, getD}
+use lib.ListN.{getD}
 use Rattle.group.specs.declared.Phase.{Phase}
 use Rattle.group.specs.declared.Phase.the-variants.{Free, Inside, Owed}
 
@@ -52,19 +52,6 @@ kindNames =
 
 unfoldable pub kindName : ℕ → List ℕ
 kindName kind = getD kindNames kind []
-
--- Serves contracts: words one after the other, and how many bytes the first k of them have together; so of the kinds' names.
-abbrev pub joined : List (List ℕ) → List ℕ
-joined [] = []
-joined (word ∷ words) = word ++ joined words
-
-abbrev pub lengthBelow : List (List ℕ) → ℕ → ℕ
-lengthBelow [] k = 0
-lengthBelow (word ∷ words) zero = 0
-lengthBelow (word ∷ words) (suc k) = length word + lengthBelow words k
-
-unfoldable pub namesBelow : ℕ → ℕ
-namesBelow kind = lengthBelow kindNames kind
 
 -- "a line `group`, number, `entries`, count"
 unfoldable pub groupLine : ℕ → ℕ → List ℕ

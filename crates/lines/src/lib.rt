@@ -5,7 +5,8 @@ ghost use mathlib.Core.Path.{_≡_};
 ghost use mathlib.Core.List.{[], _∷_};
 ghost use lib.ListN.{length};
 ghost use Rattle.lines.specs.Added.{Added};
-ghost use Rattle.lines.specs.Text.{decimal, kindName, namesBelow, ending, field, labelled, groupLine, rowLine, rowLines, groupLines, refusalLine, endLine};
+ghost use Rattle.lines.specs.Names.{namesBelow};
+ghost use Rattle.lines.specs.Text.{decimal, kindName, ending, field, labelled, groupLine, rowLine, rowLines, groupLines, refusalLine, endLine};
 use group::Phase;
 use numbers::bytes::put_bytes;
 

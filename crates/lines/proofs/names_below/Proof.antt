@@ -1,6 +1,6 @@
 -- `names_below` meets its contract: kind by kind. Assumes nothing.
 use mathlib.Core.Path.{sym, ap}
-use Rattle.lines.specs.Text.{namesBelow}
+use Rattle.lines.specs.Names.{namesBelow}
 use Rattle.lines.proofs.NameLaws.{all-below}
 use Rattle.lines.proofs.names_below.Statement.{statement}
 use Rattle.lines.proofs.names_below.Tie as tie
