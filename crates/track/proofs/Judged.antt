@@ -7,19 +7,21 @@ use Prim.Native.Nat.{ℕ, zero, suc, _+_, _-_, _≤_, _<_}
 use native.Mathlib.Nat.{add-zero, zero-add, suc-add, add-suc}
 use native.Mathlib.Numerals.{add-one}
 use native.Mathlib.Omega.{arith}
-use borrow.Author.Tests.{eq-eqb, ne-eqb, eqb-true, eqb-false, leb-true}
-use lib.Dec.{eqb, leb}
-use lib.ListN.{length, getD}
+use borrow.Author.Tests.{eq-eqb, ne-eqb, eqb-true, eqb-false}
+use lib.Dec.{eqb}
+use lib.ListN.{length}
 use Rattle.answer.specs.Answer.{refusalTold}
-use Rattle.numbers.specs.Numbers.{between}
-use Rattle.numbers.proofs.Tests.{both, within}
+use Rattle.numbers.proofs.Tests.{both}
+use Rattle.header.specs.Header.{areaKept, packKept}
+use Rattle.header.proofs.TakenApart.{pack-small}
+use Rattle.items.specs.Items.{numbersLength}
+use Rattle.block.specs.Faults.{blockFault}
 use Rattle.track.specs.declared.TrackAnswer.{TrackAnswer}
 use Rattle.track.specs.declared.TrackAnswer.the-variants.{Accepted, Refused}
-use Rattle.track.specs.Sizes.{trackLength, packsLength, itemsLength, numbersLength}
-use Rattle.track.specs.Header.{even, areaKept, packKept, packIn}
-use Rattle.track.specs.Blocks.{blockAt}
+use Rattle.track.specs.Sizes.{trackLength, packsLength, itemsLength}
+use Rattle.track.specs.Blocks.{packIn, blockAt}
 use Rattle.track.specs.Bounds.{PacksKept}
-use Rattle.track.specs.Answer.{lengthsKept, blockFault, packFault, onward, faultFrom, makeCall, readCall, told}
+use Rattle.track.specs.Answer.{lengthsKept, packFault, onward, faultFrom, makeCall, readCall, told}
 
 -- A loop over the blocks: the first fault from here on is the first of all.
 pub record Judging (fault : ℕ → ℕ) (block : ℕ) : Type 0 where
@@ -127,18 +129,6 @@ module _ (track packs items numbers : ℕ) where
         eq-eqb items itemsLength (l .items),
         eq-eqb numbers numbersLength (l .numbers),
       )
-
--- What the rules say of numbers: an Area ID has four bits, a Pack ID three.
-pub area-small : (area : ℕ) → areaKept area ≡ true → area < 16
-unfolding areaKept
-area-small area e = omega (arith, leb-true area 15 (both (leb area 15) _ e .0))
-
-pub pack-small : (block pack : ℕ) → packKept block pack ≡ true → pack < 8
-pack-small block pack e = by (even block) refl e
-  where
-    by : (b : Bool) → even block ≡ b → cond b (between 6 pack 7) (eqb pack 0) ≡ true → pack < 8
-    by true x h = omega (arith, within 6 pack 7 h)
-    by false x h = omega (arith, eqb-true pack 0 h)
 
 pub pack-is-kept : (packs : List ℕ) (block : ℕ) → packFault packs block ≡ 0 → packKept block (packIn packs block) ≡ true
 pack-is-kept packs block e = by (packKept block (packIn packs block)) refl e
