@@ -26,9 +26,9 @@ lengthsKept track packs items numbers =
 abbrev pub packFault : List ℕ → ℕ → ℕ
 packFault packs block = cond (packKept block (packIn packs block)) 0 33
 
--- "block by block from 0": the first block that has a fault, and its number.
-abbrev pub onward : (fault block : ℕ) (rest : TrackAnswer) → TrackAnswer
-onward fault block rest = cond (eqb fault 0) rest (Refused fault block)
+-- "block by block from 0": the first block that has a fault, with the refusal that it meets.
+abbrev pub onward : (refusal block : ℕ) (rest : TrackAnswer) → TrackAnswer
+onward refusal block rest = cond (eqb refusal 0) rest (Refused refusal block)
 
 unfoldable pub faultFrom : (fault : ℕ → ℕ) (block n : ℕ) → TrackAnswer
 faultFrom fault block zero = Accepted

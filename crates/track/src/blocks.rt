@@ -48,13 +48,13 @@ pub(crate) fn judge_making(
 {
     if !lengths_kept(track, packs.len(), items, numbers) {
         return TrackAnswer::Refused {
-            number: 30,
+            refusal: 30,
             place: 0,
         };
     }
     if !header::area_kept(area) {
         return TrackAnswer::Refused {
-            number: 32,
+            refusal: 32,
             place: 0,
         };
     }
@@ -62,7 +62,7 @@ pub(crate) fn judge_making(
     while block < Track::BLOCKS {
         if !header::pack_kept(block, pack_in(packs, block)) {
             return TrackAnswer::Refused {
-                number: 33,
+                refusal: 33,
                 place: block as u32,
             };
         }
@@ -83,7 +83,7 @@ pub(crate) fn judge_reading(
 {
     if !lengths_kept(track.len(), packs, items, numbers) {
         return TrackAnswer::Refused {
-            number: 30,
+            refusal: 30,
             place: 0,
         };
     }
@@ -94,7 +94,7 @@ pub(crate) fn judge_reading(
         let fault = block::block_fault(area, block, &track[from..to]);
         if fault != 0 {
             return TrackAnswer::Refused {
-                number: fault,
+                refusal: fault,
                 place: block as u32,
             };
         }

@@ -11,7 +11,7 @@ pub struct Track {}
 // What making and reading answer.
 pub enum TrackAnswer {
     Accepted,
-    Refused { number: u32, place: u32 },
+    Refused { refusal: u32, place: u32 },
 }
 
 impl Track {
@@ -48,7 +48,7 @@ impl Track {
                 answer
             }
             TrackAnswer::Refused {
-                number: _,
+                refusal: _,
                 place: _,
             } => answer,
         }
@@ -74,7 +74,7 @@ impl Track {
                 answer
             }
             TrackAnswer::Refused {
-                number: _,
+                refusal: _,
                 place: _,
             } => answer,
         }
