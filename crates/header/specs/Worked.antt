@@ -55,17 +55,24 @@ pub record Row : Type 0 where
 abbrev pub row : (block pack area : ℕ) (bytes : List ℕ) → Row
 row block pack area bytes = record { block = block; pack = pack; area = area; bytes = bytes }
 
--- The header that is made for it.
+-- The Pack ID that the block itself has, and the header that is made for it.
+abbrev pub ownPack : Row → ℕ
+ownPack r = cond (even (r .block)) (r .pack) 0
+
 abbrev pub made : Row → List ℕ
-made r = headerOf (r .area) (cond (even (r .block)) (r .pack) 0) (r .block)
+made r = headerOf (r .area) (ownPack r) (r .block)
 
 abbrev pub bytesOfRow : Row → List ℕ
 bytesOfRow r = r .bytes
 
+-- 2026-01: "area 1100, pack 6, block 0 gives C8 E0 28".
+abbrev pub workedHeader : Row
+workedHeader = row 0 6 12 (0xC8 ∷ 0xE0 ∷ 0x28 ∷ [])
+
 -- Even blocks, Pack ID 6: the Data Area, the System Area twice, the Reference and the EOD Area.
 abbrev pub evenSix : List Row
 evenSix =
-    row 0 6 12 (0xC8 ∷ 0xE0 ∷ 0x28 ∷ [])
+    workedHeader
     ∷ row 2 6 10 (0xA8 ∷ 0xE2 ∷ 0x4A ∷ [])
     ∷ row 4 6 2 (0x28 ∷ 0xE4 ∷ 0xCC ∷ [])
     ∷ row 6 6 9 (0x98 ∷ 0xE6 ∷ 0x7E ∷ [])

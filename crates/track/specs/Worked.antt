@@ -1,5 +1,5 @@
--- A track of each row of Table 3: its header, which source document 003, 9.4.9.1, tells, and its close. What is expected of the
--- block is written out whole, 35 bytes.
+-- Change request 2026-01: a track with the worked header C8 E0 28, made and read. What is expected of its block is written out
+-- whole, 35 bytes.
 -- Assumes nothing.
 use Prim.Native.Nat.{ℕ}
 use mathlib.Core.List.{List, [], _∷_, _++_}
@@ -7,21 +7,11 @@ use lib.ListN.{replicate}
 use Rattle.answer.specs.Answer.{numbersTold}
 use Rattle.header.specs.Worked.{Row}
 use Rattle.items.specs.Turns.{inTurn}
+use Rattle.block.specs.Worked.{lentItems, lentClose, zeroClose, blockExpected}
 use Rattle.track.specs.Blocks.{trackOf, blockAt}
 use Rattle.track.specs.Answer.{makeCall, readCall, told}
 
--- What is lent at each block's places: three items and a close.
-abbrev pub lentItems : List ℕ
-lentItems = replicate 8 0x11 ++ replicate 8 0x22 ++ replicate 8 0x33
-
-abbrev pub lentClose : List ℕ
-lentClose = replicate 8 0x44
-
--- "(00)": a close of zeros.
-abbrev pub zeroClose : List ℕ
-zeroClose = replicate 8 0
-
--- What a row comes to: what making and reading tell, and the block of the track that is made.
+-- What a block's header comes to: what making and reading tell, and the block of the track that is made.
 pub record Shown : Type 0 where
   pub made : List ℕ
   pub read : List ℕ
@@ -38,11 +28,11 @@ shown row =
       bytes = blockAt (madeOf row) (row .block);
     }
 
--- What is expected of it: both accept, and the block closes so.
-abbrev pub expected : (close : List ℕ) → Row → Shown
-expected close row =
+-- What is expected of an even block with Pack ID 6: both accept, and it closes in zeros.
+abbrev pub expected : Row → Shown
+expected row =
     record {
       made = 0 ∷ 0 ∷ 0 ∷ 0 ∷ 0 ∷ 0 ∷ [];
       read = 0 ∷ 0 ∷ 0 ∷ 0 ∷ 0 ∷ 0 ∷ [];
-      bytes = row .bytes ++ lentItems ++ close;
+      bytes = blockExpected zeroClose row;
     }
