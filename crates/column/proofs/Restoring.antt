@@ -136,7 +136,7 @@ module _ (j k : ℕ) (lj : j < rowCount) (lk : k < rowCount) (d : j ≡ k → �
 
     change-byte : ColumnBytes col → change < 256
     unfolding change lacking
-    change-byte b = times-byte (255 - apart j k) _ (⊕-byte _ _ (second-byte col b) (times-byte (lastRow - k) _ (first-byte col b)))
+    change-byte b = times-byte (255 - apart j k) _ (⊕-byte _ _ (second-byte col b) (times-byte _ _ (first-byte col b)))
 
     change-is : ColumnBytes col → times (apart j k) change ≡ secondSum col ⊕ times (lastRow - k) (firstSum col)
     unfolding change lacking

@@ -25,7 +25,7 @@ returns c =
     let s = c .before .before .sums-of .ensures in
     let t = c .before .before .before .loop-test .taken in
     let l = c .before .before .before .before .loop in (
-      sym (fails-here _ _ _ _ t (beyond _ _ (w .ensures ∙ ap₂ wrongRow (s .0) (s .1)) (c .if1 .taken))) ∙ l .inv .1,
+      sym (fails-here _ _ _ _ t (beyond _ _ (w .ensures ∙ ap₂ wrongRow (s .0) (s .1)) (omega (arith, c .if1 .taken)))) ∙ l .inv .1,
       l .inv .0,
     )
 
