@@ -6,8 +6,8 @@ use mathlib.Core.List.{List, [], _∷_}
 use Prim.Native.Nat.{ℕ}
 use Rattle.answer.specs.declared.Told.{Told}
 use Rattle.third.specs.declared.ThirdAnswer.{ThirdAnswer}
-use Rattle.third.specs.Column.{Column}
-use Rattle.third.specs.Answer.{checkCall, told, Does}
+use Rattle.column.specs.Column.{Column}
+use Rattle.third.specs.Answer.{Checks, told, Does}
 use Rattle.slices.specs.Call.{left, answerKept, Tells}
 use Rattle.slices.proofs.Calls.{answered, none-lent, more-lent}
 use Rattle.c_third.specs.Calls.{thirdCall, ddsThirdCheck}
@@ -20,7 +20,7 @@ done asked f n rows answer {a} kept d e t =
     answered told _ _ answer kept (d .answer) e (more-lent (told a) _ _ _ _ (d .rows-left) (none-lent (told a))) t
 
 pub checked : (n : ℕ) (rows answer : List ℕ) {a : ThirdAnswer} {answer′ : List ℕ} {t : Told} {refusal : ℕ}
-    → answerKept answer ≡ true → a ≡ checkCall rows n → t ≡ told a → Tells t refusal answer′
+    → answerKept answer ≡ true → Checks n rows a → t ≡ told a → Tells t refusal answer′
     → left refusal [] answer′ ≡ ddsThirdCheck n rows answer
 unfolding ddsThirdCheck
 checked n rows answer {a} kept c e t = answered told _ _ answer kept c e (none-lent (told a)) t

@@ -5,9 +5,9 @@ use Prim.Native.Nat.{ℕ}
 use mathlib.Core.List.{List, [], _∷_}
 use lib.ListN.{length}
 use Rattle.third.specs.declared.ThirdAnswer.{ThirdAnswer}
-use Rattle.third.specs.Column.{Column, restoredOne, restoredTwo, mended}
-use Rattle.third.specs.Rows.{eachColumn}
-use Rattle.third.specs.Answer.{makeCall, oneCall, twoCall, mendCall, checkCall, told}
+use Rattle.column.specs.Column.{lastRow, Column, restoredOne, restoredTwo, mended}
+use Rattle.restoring.specs.Rows.{eachColumn}
+use Rattle.third.specs.Answer.{firstCheckRow, makeCall, oneCall, twoCall, mendCall, checkCall, told}
 use Rattle.slices.specs.Call.{Left, answerKept, called}
 
 -- All but checking may write the rows: where such a call is accepted, f is done to every column.
@@ -15,7 +15,7 @@ unfoldable pub thirdCall : ThirdAnswer → (Column → Column) → ℕ → (rows
 thirdCall a f n rows answer = called (answerKept answer) (told a) (eachColumn f n rows ∷ []) (rows ∷ []) answer
 
 abbrev pub ddsThirdMake : ℕ → (rows answer : List ℕ) → Left
-ddsThirdMake n rows answer = thirdCall (makeCall (length rows) n) (restoredTwo 44 45) n rows answer
+ddsThirdMake n rows answer = thirdCall (makeCall (length rows) n) (restoredTwo firstCheckRow lastRow) n rows answer
 
 abbrev pub ddsThirdRestoreOne : (n row : ℕ) (rows answer : List ℕ) → Left
 ddsThirdRestoreOne n row rows answer = thirdCall (oneCall (length rows) n row) (restoredOne row) n rows answer

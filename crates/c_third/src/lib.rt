@@ -14,7 +14,7 @@ fn told(done: ThirdAnswer) -> Told
 {
     match done {
         ThirdAnswer::Accepted { outcome } => Told::Accepted(outcome, 0, 0, 0),
-        ThirdAnswer::Refused { number, place } => Told::RefusedAt(number, place),
+        ThirdAnswer::Refused { refusal, place } => Told::RefusedAt(refusal, place),
     }
 }
 

@@ -5,7 +5,7 @@ use Prim.Native.Nat.{ℕ}
 use mathlib.Core.List.{List, [], _∷_}
 use lib.ListN.{length}
 use Rattle.track.specs.Blocks.{trackOf, packsOf, itemsOf}
-use Rattle.track.specs.Items.{numbersOf}
+use Rattle.items.specs.Items.{numbersOf}
 use Rattle.track.specs.Answer.{makeCall, readCall, told}
 use Rattle.slices.specs.Call.{Left, slice, answerKept, called}
 

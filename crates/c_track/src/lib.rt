@@ -14,7 +14,7 @@ fn told(done: TrackAnswer) -> Told
 {
     match done {
         TrackAnswer::Accepted => Told::Accepted(0, 0, 0, 0),
-        TrackAnswer::Refused { number, place } => Told::RefusedAt(number, place),
+        TrackAnswer::Refused { refusal, place } => Told::RefusedAt(refusal, place),
     }
 }
 

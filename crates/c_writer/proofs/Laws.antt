@@ -23,7 +23,7 @@ use Rattle.states.specs.States.{writerLength, b4Meant, writerOf, writerBytes, w
 use Rattle.c_writer.specs.Calls.{ddsWriterStart, written}
 
 -- A start that is accepted starts a fresh writer.
-started-fresh : (size first : ℕ) (s : Writer) → writerStartCall size first ≡ start.Started s → s ≡ freshState size first
+pub started-fresh : (size first : ℕ) (s : Writer) → writerStartCall size first ≡ start.Started s → s ≡ freshState size first
 unfolding writerStartCall
 started-fresh size first s e = by (eqb (startRefusal size first) 0) e
   where

@@ -70,13 +70,7 @@ fn finish(state: &mut [u8], answer: &mut [u8], done: WriteAnswer) -> u32
 }
 
 // A record's bytes: whole, or as many as the group takes.
-pub fn record(
-    state: &mut [u8],
-    group: &mut [u8],
-    data: &[u8],
-    warn: u32,
-    answer: &mut [u8],
-) -> u32
+pub fn record(state: &mut [u8], group: &mut [u8], data: &[u8], warn: u32, answer: &mut [u8]) -> u32
     ensures { λ r. ⌜ left r (now (state .exit) ∷ now (group .exit) ∷ []) (now (answer .exit)) ≡ ddsRecord (now (state .entry)) (now (group .entry)) (now («data» .entry)) warn (now (answer .entry)) ⌝ }
 {
     if refused(state, warn, answer) {

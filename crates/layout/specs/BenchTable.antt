@@ -335,7 +335,7 @@ b4ToTheClose =
     record {
       given = writing other (aRecord (from 1 25) true ∷ offer 25 1 ∷ aSeparator 2 true ∷ separator ∷ aSeparator 1 true ∷ end ∷ []);
       expected =
-          wrote (closeOf 1 2 24 ∷ ok ∷ refusal 18 0 ∷ ok ∷ ok ∷ closeOf 2 5 0 ∷ [])
+          wrote (closeOf 1 2 24 ∷ ok ∷ refusedAt 18 0 ∷ ok ∷ ok ∷ closeOf 2 5 0 ∷ [])
           (image 1 2 (from 1 24 ++ (0x88 ∷ 0 ∷ 0 ∷ 40 ∷ 0x4A ∷ 0 ∷ 0 ∷ 24 ∷ []) ++ information)
           ∷ image 2 5 (from 25 1 ++ zeros 11 ++ (0x88 ∷ 0 ∷ 0 ∷ 63 ∷ 0x0F ∷ 0 ∷ 0 ∷ 1 ∷ 0x07 ∷ 0 ∷ 0 ∷ 0 ∷ 0x01 ∷ 0 ∷ 0 ∷ 25 ∷ 0x60 ∷ 0 ∷ 0 ∷ 1 ∷ []) ++ information)
           ∷ [])
@@ -350,7 +350,7 @@ b4OfAnOwedTotal =
     record {
       given = writing other (offer 1 45 ∷ anEnd true ∷ separator ∷ offer 25 21 ∷ anEnd true ∷ anEnd true ∷ []);
       expected =
-          wrote (closeOf 1 2 24 ∷ refusal 17 0 ∷ refusal 17 0 ∷ closeOf 2 2 21 ∷ closeOf 3 2 0 ∷ ok ∷ [])
+          wrote (closeOf 1 2 24 ∷ refusedAt 17 0 ∷ refusedAt 17 0 ∷ closeOf 2 2 21 ∷ closeOf 3 2 0 ∷ ok ∷ [])
           (image 1 2 startGroup
           ∷ image 2 2 (from 25 21 ++ zeros 3 ++ (0x80 ∷ 0 ∷ 0 ∷ 43 ∷ 0x60 ∷ 0 ∷ 0 ∷ 21 ∷ []) ++ information)
           ∷ image 3 2 (zeros 24 ++ (0x88 ∷ 0 ∷ 0 ∷ 64 ∷ 0x09 ∷ 0 ∷ 0 ∷ 45 ∷ []) ++ information)

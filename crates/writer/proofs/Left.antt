@@ -259,8 +259,12 @@ left-separator {value} {g} {w} t c (not-laid h) = left-closed 0 w t (c .carried)
 
 left-same : {s : Writer} {g : List ℕ} → Ended s g → Left g (finished (desk s g))
 unfolding finished stateOf
-left-same {s} {g} a = record { accepted = refl;
-      given = λ new old. refl; sound = a .sound; stays = stays-same g }
+left-same {s} {g} a = record {
+  accepted = refl;
+  given = λ new old. refl;
+  sound = a .sound;
+  stays = stays-same g;
+}
 
 -- The three calls.
 pub record-left : {s : Writer} {g : List ℕ} (bytes : List ℕ) (warn : Bool) → Offered s g (length bytes)
