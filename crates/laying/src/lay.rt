@@ -1,9 +1,10 @@
-// What is laid in a group: entries, data, an owed total. Each step takes the state by value and the group that it is lent.
+// What is laid in a group: entries, data, an owed total, the skip and the gap. Each step takes the state by value and the group that it is lent.
 ghost use mathlib.Core.Path.{_≡_};
 ghost use Prim.Native.Nat.{_+_, _≤_};
 ghost use lib.ListN.{length};
 ghost use Rattle.group.specs.declared.Phase.the-variants as phase;
-ghost use Rattle.laying.specs.Laying.{desk, layEntry, layPart, movedState, warnState, ready};
+ghost use Rattle.group.specs.Sizes.{lastNumber};
+ghost use Rattle.laying.specs.Laying.{desk, layEntry, layPart, movedState, warnState, shut, ready};
 ghost use Rattle.laying.specs.Bounds.{Roomy, Grown, Ready, span};
 use crate::Writer;
 use crate::room;
@@ -57,6 +58,24 @@ pub fn moved(w: Writer, phase: Phase, sum: u32, rest: u32) -> Writer
         filled: w.filled,
         entries: w.entries,
     }
+}
+
+// The skip, zeros in the gap, and the state at the next group.
+pub fn shut(w: Writer, group: &mut [u8]) -> Writer
+    requires { ⌜ Roomy w (now group) ⌝ }
+    requires { ⌜ w .next ≤ lastNumber ⌝ }
+    ensures { λ r. ⌜ desk r (now (group .exit)) ≡ shut (desk w (now (group .entry))) ⌝ }
+{
+    let v = lay_entry(w, group, Kind::Skip, w.size - w.filled);
+    let from = v.filled as usize;
+    let to = room::entry_offset(v.size, v.entries) as usize;
+    bytes::put_zeros(group, from, to);
+    let mut state = v;
+    state.next = v.next + 1;
+    state.filled = 0;
+    state.entries = 0;
+    state.warned = false;
+    state
 }
 
 // b4 as the call says: once set it stays.

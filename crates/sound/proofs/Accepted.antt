@@ -14,6 +14,7 @@ use Rattle.group.specs.declared.Phase.the-variants.{Inside}
 use Rattle.laying.specs.declared.Writer.{Writer}
 use Rattle.sound.specs.State.{isFree, isInside, isOwed, writerSound, lengthKept, remainsKept, noneOpenKept, valueKept, offerKept, endRemainsKept, endsEmpty, recordRefusal, separatorRefusal, endRefusal}
 use Rattle.laying.specs.Bounds.{Grown, Ready, Opened, span}
+use Rattle.sound.proofs.Exits.{RemainsMet}
 use Rattle.sound.proofs.SoundLaws.{Sound, sound, chosen}
 
 -- One entry more has its place in a sound state, whatever its phase.
@@ -42,18 +43,15 @@ is-ready {s} {g} a =
 -- The links "1, 4, 14", with which a record's chain and a separator's begin.
 opening : (s : Writer) (g : List ℕ) (more : ℕ)
     → cond (not (writerSound s)) 1 (cond (not (lengthKept s (length g))) 4 (cond (not (remainsKept s)) 14 more)) ≡ 0
-    → Accepted s g × (more ≡ 0)
+    → RemainsMet s (length g) × (more ≡ 0)
 opening s g more e =
     let a = passed _ _ e in
     let b = passed _ _ (a .1) in
-    let c = passed (not (remainsKept s)) 13 (b .1) in (
-      record {
-        sound = sound s (not-false _ (a .0));
-        long = eqb-true _ _ (not-false _ (b .0));
-        next = leb-true _ _ (not-false _ (c .0));
-      },
-      c .1,
-    )
+    let c = passed (not (remainsKept s)) 13 (b .1) in
+    (((not-false _ (a .0), eqb-true _ _ (not-false _ (b .0))), leb-true _ _ (not-false _ (c .0))), c .1)
+
+knows : {s : Writer} {g : List ℕ} → RemainsMet s (length g) → Accepted s g
+knows {s} m = record { sound = sound s (m .0 .0); long = m .0 .1; next = m .1 }
 
 -- What an accepted record of n bytes knows besides.
 pub record Offered (s : Writer) (g : List ℕ) (n : ℕ) : Type 0 where
@@ -70,7 +68,7 @@ record-accepted s g n e =
     let f = passed (not (offerKept s n)) 15 (d .1) in
     let m = within 1 n longestRecord (not-false _ (d .0)) in
     record {
-      accepted = a .0;
+      accepted = knows (a .0);
       some = m .0;
       most = m .1;
       rest = λ h. eqb-true n (s .rest) (chosen (isInside (s .phase)) _ true (not-false _ (f .0)) h);
@@ -104,7 +102,7 @@ separator-accepted s g value e =
     let d = passed _ _ (a .1) in
     let f = passed _ _ (d .1) in
     record {
-      accepted = a .0;
+      accepted = knows (a .0);
       shut = not-true _ (not-false _ (d .0));
       small = leb-true _ _ (not-false _ (f .0));
     }

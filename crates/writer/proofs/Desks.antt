@@ -6,22 +6,15 @@ use Prim.Native.Nat.{ℕ}
 use borrow.Author.Tests.{ne-eqb, eq-eqb}
 use Rattle.group.specs.declared.Phase.{Phase}
 use Rattle.laying.specs.declared.Writer.{Writer}
-use Rattle.writer.specs.declared.WriteAnswer.the-variants.{Closed, Refused}
-use Rattle.laying.specs.Laying.{Desk, desk, moved, movedState, nextState, layEntry, laySkip, zeroGap, shut}
-use Rattle.writer.specs.Calls.{Done, done, Meets, closed, orRefused}
+use Rattle.writer.specs.declared.WriteAnswer.the-variants.{Refused}
+use Rattle.laying.specs.Laying.{Desk, desk, moved, movedState}
+use Rattle.writer.specs.Calls.{Done, done, Meets, orRefused}
 
 -- A state that is moved before a last step f.
 pub move-on : (f : Desk → Done) (p : Phase) (sum rest : ℕ) {m : Writer} (v : Writer) (h : List ℕ) {d : Desk}
     → m ≡ movedState p sum rest v → desk v h ≡ d → f (desk m h) ≡ f (moved p sum rest d)
 unfolding moved
 move-on f p sum rest v h e k = ap (λ (s : Writer). f (desk s h)) e ∙ ap (λ (x : Desk). f (moved p sum rest x)) k
-
--- A group whose skip is laid is closed by zeros in the gap.
-pub close-laid : (taken : ℕ) (w : Desk) {d : Desk} → d ≡ laySkip w
-    → done (Closed (nextState (d .state)) (d .state .next) (d .state .entries) taken) (zeroGap d .group) ≡ closed taken w
-unfolding closed shut laySkip layEntry zeroGap
-close-laid taken w e =
-    ap (λ (d : Desk). done (Closed (nextState (d .state)) (d .state .next) (d .state .entries) taken) (zeroGap d .group)) e
 
 -- A call that is refused, one that is not; an outcome that is the call's meets its contract.
 pub refuse : (k n : ℕ) (w : Desk) (a : Done) → n ≡ k → (n ≡ 0 → ⊥) → done (Refused (w .state) n) (w .group) ≡ orRefused k w a

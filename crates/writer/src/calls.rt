@@ -14,27 +14,18 @@ use laying::Fit;
 use laying::Writer;
 use laying::lay;
 use laying::room;
-use numbers::bytes;
 
-// The skip, zeros in the gap, and the state at the next group.
+// The group is closed: its number, the entries that it holds with the skip, and the bytes that the call took.
 pub(crate) fn close(w: Writer, group: &mut [u8], taken: u32) -> WriteAnswer
     requires { ⌜ Roomy w (now group) ⌝ }
     requires { ⌜ w .next ≤ lastNumber ⌝ }
     ensures { λ r. ⌜ done r (now (group .exit)) ≡ closed taken (desk w (now (group .entry))) ⌝ }
 {
-    let v = lay::lay_entry(w, group, Kind::Skip, w.size - w.filled);
-    let from = v.filled as usize;
-    let to = room::entry_offset(v.size, v.entries) as usize;
-    bytes::put_zeros(group, from, to);
-    let mut state = v;
-    state.next = v.next + 1;
-    state.filled = 0;
-    state.entries = 0;
-    state.warned = false;
+    let state = lay::shut(w, group);
     WriteAnswer::Closed {
         state,
-        number: v.next,
-        entries: v.entries,
+        number: w.next,
+        entries: w.entries + 1,
         taken,
     }
 }
