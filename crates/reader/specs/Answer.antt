@@ -23,7 +23,8 @@ use Rattle.reader.specs.declared.ReaderStart.the-variants as start
 use Rattle.reader.specs.declared.ReadAnswer.{ReadAnswer}
 use Rattle.reader.specs.declared.ReadAnswer.the-variants as answer
 use Rattle.entry.specs.Rules.{standAt, phaseAfter}
-use Rattle.entry.specs.Scan.{scan, rowsFrom}
+use Rattle.entry.specs.Scan.{scan}
+use Rattle.reader.specs.Rows.{rowsFrom}
 
 -- "A reader starts with L and the first number."
 abbrev pub fresh : ℕ → ℕ → Reader
@@ -51,7 +52,7 @@ abbrev pub rowsFit : ℕ → ℕ → Bool
 rowsFit n room = leb (3 * n) room
 
 -- "Read 1, 4, 5, 6, 7": the number of a refusal before the scan, 0 if there is none.
-unfoldable pub readRefusal : Reader → ℕ → ℕ → ℕ → ℕ → ℕ
+unfoldable pub readRefusal : Reader → (length number n room : ℕ) → ℕ
 readRefusal s length number n room =
     cond (not (sound s)) 1
     (cond (not (lengthKept s length)) 4
@@ -78,7 +79,7 @@ answered s (scanned.Reached c) = answer.Accepted (closing s c)
 answered s (scanned.Refused fault place c) = answer.Refused s fault place
 
 -- What a read answers that is lent rows for `room` numbers.
-unfoldable pub readCall : Reader → List ℕ → ℕ → ℕ → ℕ → ReadAnswer
+unfoldable pub readCall : Reader → (group : List ℕ) (number n room : ℕ) → ReadAnswer
 readCall s group number n room =
     cond (eqb (readRefusal s (length group) number n room) 0) (answered s (groupScan s group n))
     (answer.Refused s (readRefusal s (length group) number n room) 0)

@@ -1,5 +1,5 @@
-// Reads Basic Groups: document 01, "Which entry may follow" and "Reading". A start, a read with its rows, and a read's
-// judgement without them. None of them requires anything: what may not be is refused with a number and a place.
+// Reads Basic Groups: document 01, "Reading". A start, a read with its rows, and a read's judgement without them. None of them
+// requires anything: what may not be is refused with a number and a place.
 mod ends;
 mod row_bytes;
 mod rows;

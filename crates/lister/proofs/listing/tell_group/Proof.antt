@@ -9,7 +9,7 @@ use Rattle.lister.proofs.listing.tell_group.Tie as tie
 say-group-requires : tie.Need-say-group-requires
 say-group-requires c κs =
     let read = c .before .before .before .before .before .read in
-    let passed = accepted _ _ _ _ _ _ (sym (read .ensures .0) ∙ c .before .before .next .given .1) in
+    let passed = accepted _ _ _ _ _ _ (sym (read .ensures .answer) ∙ c .before .before .next .given .1) in
     (omega (arith, passed .ready .rows, read .kept .1 .1 .1 .1 .0), omega (arith, passed .ready .rows))
 
 pub tell-group-spec : {M : Type 1} → statement M
