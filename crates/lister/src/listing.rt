@@ -28,7 +28,7 @@ fn tell_group(reader: Reader, image: &[u8], number: u32, entries: u32) -> Listed
         }
         ReadAnswer::Refused {
             state: _,
-            number: refusal,
+            refusal,
             place,
         } => {
             output::say_refusal(refusal, place);
