@@ -1,2 +1,3 @@
-pub mod LoaderOutcomes
-pub mod LoaderTrip
+-- The laws of the five calls, and the theorems through C.
+pub mod Laws
+pub mod Theorems

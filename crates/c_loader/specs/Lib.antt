@@ -1,1 +1,2 @@
-pub mod Loader
+-- What a reader of this crate must believe: what the five calls on a loader's memory leave.
+pub mod Calls

@@ -1,1 +1,2 @@
-pub mod Outcomes
+-- The laws of a reader's two calls.
+pub mod Laws

@@ -1,3 +1,74 @@
-// calls on lent slices
-pub mod reading;
-pub mod writing;
+// A reader from C: its start and its read.
+ghost use mathlib.Core.Path.{_≡_};
+ghost use mathlib.Core.List.{[], _∷_};
+ghost use lib.ListN.{length};
+ghost use Rattle.numbers.specs.Numbers.{numberAt};
+ghost use Rattle.answer.specs.Answer.{ifAccepted};
+ghost use Rattle.reader.specs.declared.ReadAnswer.the-variants.{Accepted};
+ghost use Rattle.reader.specs.Answer.{told, stateOf};
+ghost use Rattle.slices.specs.Call.{left, answerLength, Tells};
+ghost use Rattle.states.specs.States.{readerLength, readerBytes};
+ghost use Rattle.c_reader.specs.Calls.{ddsReaderStart, ddsRead};
+use answer::Told;
+use reader::ReadAnswer;
+use reader::Reader;
+use reader::ReaderStart;
+
+// A fresh reader, into the state slice.
+pub fn start(size: u32, first: u32, state: &mut [u8], answer: &mut [u8]) -> u32
+    ensures { λ r. ⌜ left r (now (state .exit) ∷ []) (now (answer .exit)) ≡ ddsReaderStart size first (now (state .entry)) (now (answer .entry)) ⌝ }
+{
+    if !slices::lengths_kept(state.len(), states::READER_LENGTH, answer.len()) {
+        return 1;
+    }
+    let start = Reader::start(size, first);
+    match start {
+        ReaderStart::Started(reader) => {
+            states::put_reader(state, reader);
+            slices::tell(answer, Told::Accepted(0, 0, 0, 0))
+        }
+        ReaderStart::Refused(refusal) => slices::tell(answer, Told::RefusedAt(refusal, 0)),
+    }
+}
+
+// What a read leaves in the state and the answer, and what it returns. The size stands in the state already.
+fn finish(state: &mut [u8], answer: &mut [u8], done: ReadAnswer) -> u32
+    requires { ⌜ (length (now state) ≡ readerLength) × (length (now answer) ≡ answerLength) ⌝ }
+    requires { ⌜ ((reader : Reader) → done ≡ Accepted reader → reader .size ≡ numberAt 4 (now state) 0) ⌝ }
+    ensures { λ _. ⌜ now (state .exit) ≡ ifAccepted (told done) (readerBytes (stateOf done)) (now (state .entry)) ⌝ }
+    ensures { λ r. ⌜ Tells (told done) r (now (answer .exit)) ⌝ }
+{
+    match done {
+        ReadAnswer::Accepted(reader) => {
+            states::put_next(state, reader);
+            slices::tell(answer, Told::Accepted(0, 0, 0, 0))
+        }
+        ReadAnswer::Refused {
+            state: _,
+            refusal,
+            place,
+        } => slices::tell(answer, Told::RefusedAt(refusal, place)),
+    }
+}
+
+// Reads one group: its rows, and the state for the next.
+pub fn read(
+    state: &mut [u8],
+    group: &[u8],
+    number: u32,
+    entries: u32,
+    rows: &mut [u8],
+    answer: &mut [u8],
+) -> u32
+    ensures { λ r. ⌜ left r (now (state .exit) ∷ now (rows .exit) ∷ []) (now (answer .exit)) ≡ ddsRead (now (state .entry)) (now (group .entry)) number entries (now (rows .entry)) (now (answer .entry)) ⌝ }
+{
+    if !slices::lengths_kept(state.len(), states::READER_LENGTH, answer.len()) {
+        return 1;
+    }
+    if !states::reader_meant(state) {
+        return slices::tell(answer, Told::RefusedAt(1, 0));
+    }
+    let reader = states::reader_of(state);
+    let done = reader.read_bytes(group, number, entries, rows);
+    finish(state, answer, done)
+}

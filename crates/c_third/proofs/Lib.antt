@@ -1,1 +1,2 @@
-pub mod ThirdOutcomes
+-- The laws of the five calls.
+pub mod Laws

@@ -1,1 +1,2 @@
-pub mod Third
+-- What a reader of this crate must believe: what the five calls of the third code leave.
+pub mod Calls

@@ -1,2 +1,3 @@
-pub mod TrackOutcomes
-pub mod TrackTrip
+-- The laws of the two calls, and the theorems through C.
+pub mod Laws
+pub mod Theorems

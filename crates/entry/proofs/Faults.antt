@@ -3,23 +3,19 @@
 use mathlib.Core.Path.{_≡_, refl}
 use mathlib.Core.Bool.{Bool, true, false, cond, not, _||_}
 use Prim.Native.Nat.{ℕ, _+_, _-_, _≤_}
-use native.Mathlib.Nat.{add-zero}
 use native.Mathlib.Omega.{arith}
-use borrow.Author.Tests.{eq-eqb, le-leb, ne-eqb, eqb-true, eqb-false, leb-true, not-false}
+use borrow.Author.Tests.{eq-eqb, ne-eqb, eqb-true, eqb-false, leb-true, not-false}
 use lib.Dec.{eqb, leb}
-use Rattle.group.specs.declared.Entry.{Entry}
 use Rattle.group.specs.declared.Kind.{Kind}
 use Rattle.group.specs.declared.Kind.the-variants.{Total, Separator, Middle, Start, Last, Entire, Skip}
 use Rattle.group.specs.declared.Meaning.{Meaning}
 use Rattle.group.specs.declared.Meaning.the-variants.{Known, Unknown}
 use Rattle.group.specs.Sizes.{longestRecord}
-use Rattle.group.specs.Flags.{flagOf, meaningOf}
 use Rattle.numbers.proofs.Tests.{passed}
-use Rattle.group.proofs.FlagLaws.{meaning-of-flag}
 use Rattle.entry.specs.declared.Cursor.{Cursor}
-use Rattle.entry.specs.Rules.{mayFollow, b4Kept, followKept, countFault, partFault, roomKept, skipKept, dataFault, entryFault, orElse, sumAfter, reachedAfter}
+use Rattle.entry.specs.Rules.{isSkip, b4Kept, followKept, countFault, partFault, roomKept, skipKept, dataFault, entryFault, orElse, sumAfter, reachedAfter}
 use Rattle.entry.specs.Scan.{after}
-use Rattle.entry.specs.Bounds.{Bounded, freeAt, Single, separates, isEntire}
+use Rattle.entry.specs.Bounds.{Bounded}
 
 -- Whatever the `||` of a list's end adds, it is nothing.
 pub or-false : (b : Bool) → b || false ≡ b
@@ -45,6 +41,22 @@ module _ (size limit : ℕ) (last : Bool) (c : Cursor) (m : Meaning) (k : Kind) 
       → dataFault size limit (c .reached) k count ≡ entryFault size limit last c m count
   unfolding entryFault
   twelve h i f = rw (e, h, i, f)
+
+-- A total's count, against the sum of its parts.
+module _ (sum count : ℕ) where
+  pub total-kept : count ≡ sum → 0 ≡ countFault Total sum count
+  total-kept e = rw (eq-eqb count sum e)
+
+  pub total-differs : (count ≡ sum → ⊥) → 11 ≡ countFault Total sum count
+  total-differs e = rw (ne-eqb count sum e)
+
+-- A skip's count, against L less the data before it.
+module _ (size limit reached : ℕ) (k : Kind) (count : ℕ) (h : roomKept k reached count limit ≡ true) (i : isSkip k ≡ true) where
+  pub skip-counted : count ≡ size - reached → 0 ≡ dataFault size limit reached k count
+  skip-counted e = rw (h, i, eq-eqb count (size - reached) e)
+
+  pub skip-differs : (count ≡ size - reached → ⊥) → 13 ≡ dataFault size limit reached k count
+  skip-differs e = rw (h, i, ne-eqb count (size - reached) e)
 
 -- Every rule of an entry is kept.
 pub record Kept (size limit : ℕ) (last : Bool) (c : Cursor) (k : Kind) (w : Bool) (count : ℕ) : Type 0 where
@@ -117,38 +129,3 @@ stays size limit last c (Known k w) count b e =
       sum = sum-small k (c .sum) count (h .counted) (b .sum);
       reached = leb-true (reachedAfter k (c .reached) count) limit (h .room);
     }
-
--- The b4 of the entry before it.
-same-b4 : (w : Bool) → b4Kept w w ≡ true
-same-b4 true = refl
-same-b4 false = refl
-
--- A separator or an entire record between records, with room for its data, has no fault, and leaves the scan free.
-pub single-kept : (size limit : ℕ) (w : Bool) (sum reached bytes : ℕ) (e : Entry) → Single w e bytes → e .count ≤ longestRecord → reached + bytes ≤ limit
-    → entryFault size limit false (freeAt w sum reached) (meaningOf (e .flag)) (e .count) ≡ 0
-unfolding mayFollow
-single-kept size limit w sum reached bytes e (separates f n b) small fits =
-    rw (f, meaning-of-flag Separator w)
-    (no-fault size limit false _ Separator w (e .count)
-    (record { b4 = same-b4 w; follow = refl; counted = rw (le-leb _ _ n); room = le-leb reached limit (omega arith); skip = refl }))
-single-kept size limit w sum reached bytes e (isEntire f n b) small fits =
-    rw (f, meaning-of-flag Entire w)
-    (no-fault size limit false _ Entire w (e .count)
-    (record { b4 = same-b4 w; follow = refl; counted = rw (le-leb _ _ n, le-leb _ _ small); room = le-leb (reached + e .count) limit (omega arith); skip = refl }))
-
-pub single-after : (w : Bool) (sum reached bytes : ℕ) (e : Entry) → Single w e bytes
-    → after (freeAt w sum reached) (meaningOf (e .flag)) (e .count)
-    ≡ freeAt w 0 (reached + bytes)
-single-after w sum reached bytes e (separates f n b) = rw (f, meaning-of-flag Separator w, b, add-zero reached)
-single-after w sum reached bytes e (isEntire f n b) = rw (f, meaning-of-flag Entire w, b)
-
--- A skip of all that is left of the group, where a skip may follow, has no fault, and leaves the scan where it stands.
-pub skip-kept : (size limit : ℕ) (c : Cursor) (e : Entry) → e .flag ≡ flagOf Skip (c .warned) → e .count ≡ size - c .reached → c .reached ≤ limit → mayFollow (c .stand) Skip ≡ true
-    → entryFault size limit true c (meaningOf (e .flag)) (e .count) ≡ 0
-skip-kept size limit c e f n r h =
-    rw (f, meaning-of-flag Skip (c .warned))
-    (no-fault size limit true c Skip (c .warned) (e .count)
-    (record { b4 = same-b4 (c .warned); follow = rw h; counted = refl; room = le-leb _ _ r; skip = eq-eqb _ _ n }))
-
-pub skip-after : (c : Cursor) (e : Entry) → e .flag ≡ flagOf Skip (c .warned) → after c (meaningOf (e .flag)) (e .count) ≡ c
-skip-after c e f = rw (f, meaning-of-flag Skip (c .warned))

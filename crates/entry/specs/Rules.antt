@@ -96,7 +96,7 @@ abbrev pub followKept : Stand → Kind → Bool → Bool
 followKept stand k last = mayFollow stand k && cond last (isSkip k) (not (isSkip k))
 
 -- 11: a zero part, an over-long sum. A part's count is 1 or more, and the parts add to at most so much.
-abbrev pub partFault : ℕ → ℕ → ℕ → ℕ
+abbrev pub partFault : (count parts most : ℕ) → ℕ
 partFault count parts most = cond (leb 1 count) (cond (leb parts most) 0 11) 11
 
 -- 11 "covers a zero part, separator above 1, an over-long sum and a total that differs"; 0 if the count keeps its rule.
@@ -110,11 +110,11 @@ countFault Entire sum count = partFault count count longestRecord
 countFault Skip sum count = 0
 
 -- 12: the data that this entry reaches stays within the limit, L − 32 − 4n.
-abbrev pub roomKept : Kind → ℕ → ℕ → ℕ → Bool
+abbrev pub roomKept : Kind → (reached count limit : ℕ) → Bool
 roomKept k reached count limit = leb (reachedAfter k reached count) limit
 
 -- 13: a skip's count is "L less all data bytes before it".
-abbrev pub skipKept : Kind → ℕ → ℕ → ℕ → Bool
+abbrev pub skipKept : Kind → (reached count size : ℕ) → Bool
 skipKept k reached count size = cond (isSkip k) (eqb count (size - reached)) true
 
 -- A fault that is one, or else what comes after it in the order.
@@ -122,12 +122,12 @@ abbrev pub orElse : ℕ → ℕ → ℕ
 orElse fault rest = cond (eqb fault 0) rest fault
 
 -- 12, then 13.
-abbrev pub dataFault : ℕ → ℕ → ℕ → Kind → ℕ → ℕ
+abbrev pub dataFault : (size limit reached : ℕ) → Kind → (count : ℕ) → ℕ
 dataFault size limit reached k count =
     cond (not (roomKept k reached count limit)) 12 (cond (not (skipKept k reached count size)) 13 0)
 
 -- "at one entry 8 to 13 in number order": the number of the first rule that is broken, 0 if none is.
-unfoldable pub entryFault : ℕ → ℕ → Bool → Cursor → Meaning → ℕ → ℕ
+unfoldable pub entryFault : (size limit : ℕ) (last : Bool) → Cursor → Meaning → (count : ℕ) → ℕ
 entryFault size limit last c Unknown count = 8
 entryFault size limit last c (Known k warned) count =
     cond (not (b4Kept (c .warned) warned)) 9

@@ -1,4 +1,6 @@
-// The rules of one entry, and what a scan carries from entry to entry.
+// One entry of a group's table: document 01, "Which entry may follow" and refusals 8 to 13. Its rules, what a scan carries from
+// entry to entry, and how it ends. The leaves here have a `requires` where they add or look up; the scan that calls them stands
+// above.
 pub mod rules;
 
 // Where the scan of a group stands among the records.

@@ -1,7 +1,7 @@
--- What a sound run and an accepted start mean as facts on numbers, and back.
+-- What a sound run and an accepted start mean as facts on numbers, and back; what a start refuses first.
 -- Assumes nothing.
 use mathlib.Core.Path.{_≡_}
-use mathlib.Core.Bool.{true, not, _&&_}
+use mathlib.Core.Bool.{true, false, not, _&&_}
 use Prim.Native.Nat.{ℕ, _≤_}
 use native.Mathlib.Omega.{arith}
 use borrow.Author.Tests.{not-false, eqb-true}
@@ -38,6 +38,20 @@ pub sum-small : (phase : Phase) (sum : ℕ) → sumKept phase sum ≡ true → s
 sum-small Free sum e = omega (arith, eqb-true sum 0 e)
 sum-small Inside sum e = omega (arith, within 1 sum 16777214 e)
 sum-small Owed sum e = omega (arith, within 2 sum 16777215 e)
+
+-- "Order: start 2, 3.": the first test that fails gives its number, whatever the other says.
+module _ (size first : ℕ) where
+  pub two : sizeKept size ≡ false → 2 ≡ startRefusal size first
+  unfolding startRefusal
+  two a = rw a
+
+  pub three : sizeKept size ≡ true → numberKept first ≡ false → 3 ≡ startRefusal size first
+  unfolding startRefusal
+  three a b = rw (a, b)
+
+  pub starts : sizeKept size ≡ true → numberKept first ≡ true → 0 ≡ startRefusal size first
+  unfolding startRefusal
+  starts a b = rw (a, b)
 
 -- What an accepted start says of its numbers.
 pub started : (size first : ℕ) → startRefusal size first ≡ 0 → (sizeKept size ≡ true) × (numberKept first ≡ true)

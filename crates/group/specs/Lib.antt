@@ -1,4 +1,5 @@
--- What a reader of this crate must believe, in document 01's order, and the one file that serves only proofs (Coded).
+-- What a reader of this crate must believe, in document 01's order, and the one file that serves only contracts and proofs
+-- (Coded).
 pub mod Sizes
 pub mod Entries
 pub mod Flags

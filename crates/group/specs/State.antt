@@ -19,7 +19,7 @@ sumKept Inside sum = between 1 sum (longestRecord - 1)
 sumKept Owed sum = between 2 sum longestRecord
 
 -- "It is sound if L and the number are in range and the sum is .."
-unfoldable pub runSound : ℕ → ℕ → Phase → ℕ → Bool
+unfoldable pub runSound : (size next : ℕ) → Phase → (sum : ℕ) → Bool
 runSound size next phase sum = sizeKept size && (nextKept next && sumKept phase sum)
 
 -- "Order: start 2, 3." The number of a start's refusal, 0 if it is accepted.

@@ -17,7 +17,8 @@ use Rattle.reader.specs.declared.Reader.{Reader}
 use Rattle.entry.specs.declared.Stand.{Stand}
 use Rattle.reader.specs.declared.ReadAnswer.{ReadAnswer}
 use Rattle.reader.specs.declared.ReadAnswer.the-variants as answer
-use Rattle.entry.specs.Scan.{rowsFrom, reachedBy}
+use Rattle.entry.specs.Scan.{reachedBy}
+use Rattle.reader.specs.Rows.{rowsFrom}
 use Rattle.reader.specs.Answer.{fresh, readCall, groupRows, rowsLeft}
 use Rattle.reader.proofs.Accepted.{accepted}
 use Rattle.layout.specs.Items.{Item, Piece, grouped, tokens}

@@ -65,7 +65,7 @@ unfoldable pub readAll : Reader → List Image → List Read
 readAll s [] = []
 readAll s (g ∷ gs) =
     record {
-      told = read.told (answerTo s g);
+      told = numbersTold (read.told (answerTo s g));
       rows = read.rowsLeft (answerTo s g) (read.groupRows s (g .bytes) (g .entries)) (lentRows (g .entries));
     }
     ∷ readAll (read.stateOf (answerTo s g)) gs
@@ -106,10 +106,10 @@ unfoldable pub shownFrom : Given → WriterStart → ReaderStart → Shown
 shownFrom (writing lent cs) (writerStart.Started w) (readerStart.Started s) =
     let d = desk w (replicate size lent) in
     wrote (toldAll lent cs d) (closedAll lent cs d) (deskLeft lent cs d) (readAll s (closedAll lent cs d)) (readTo s (closedAll lent cs d))
-shownFrom (writing lent cs) (writerStart.Started w) (readerStart.Refused number) = notStarted
+shownFrom (writing lent cs) (writerStart.Started w) (readerStart.Refused refusal) = notStarted
 shownFrom (writing lent cs) (writerStart.Refused refusal) answer = notStarted
 shownFrom (reading run) answer (readerStart.Started s) = readings (readAll s run) (readTo s run)
-shownFrom (reading run) answer (readerStart.Refused number) = notStarted
+shownFrom (reading run) answer (readerStart.Refused refusal) = notStarted
 
 unfoldable pub shown : Given → Shown
 shown given = shownFrom given (write.writerStartCall size first) (read.readerStartCall size first)
@@ -139,15 +139,15 @@ ok = 0 ∷ 0 ∷ 0 ∷ 0 ∷ 0 ∷ 0 ∷ []
 abbrev pub closeOf : (number entries taken : ℕ) → List ℕ
 closeOf number entries taken = 0 ∷ 0 ∷ 1 ∷ number ∷ entries ∷ taken ∷ []
 
-abbrev pub refusal : ℕ → ℕ → List ℕ
-refusal number place = number ∷ place ∷ 0 ∷ 0 ∷ 0 ∷ 0 ∷ []
+abbrev pub refusedAt : ℕ → ℕ → List ℕ
+refusedAt refusal place = refusal ∷ place ∷ 0 ∷ 0 ∷ 0 ∷ 0 ∷ []
 
 -- A read that fills these rows, and one that is refused and leaves them all, lent for n entries.
 abbrev pub filling : List ℕ → Read
 filling rows = record { told = ok; rows = rows ++ (rowOther ∷ []) }
 
-abbrev pub refusing : ℕ → ℕ → ℕ → Read
-refusing number place n = record { told = refusal number place; rows = lentRows n }
+abbrev pub refusing : (refusal place n : ℕ) → Read
+refusing refusal place n = record { told = refusedAt refusal place; rows = lentRows n }
 
 -- A writer and a reader that stand free before the group of this number, nothing laid.
 abbrev pub freeDesk : ℕ → ℕ → Desk
@@ -335,7 +335,7 @@ b4ToTheClose =
     record {
       given = writing other (aRecord (from 1 25) true ∷ offer 25 1 ∷ aSeparator 2 true ∷ separator ∷ aSeparator 1 true ∷ end ∷ []);
       expected =
-          wrote (closeOf 1 2 24 ∷ ok ∷ refusal 18 0 ∷ ok ∷ ok ∷ closeOf 2 5 0 ∷ [])
+          wrote (closeOf 1 2 24 ∷ ok ∷ refusedAt 18 0 ∷ ok ∷ ok ∷ closeOf 2 5 0 ∷ [])
           (image 1 2 (from 1 24 ++ (0x88 ∷ 0 ∷ 0 ∷ 40 ∷ 0x4A ∷ 0 ∷ 0 ∷ 24 ∷ []) ++ information)
           ∷ image 2 5 (from 25 1 ++ zeros 11 ++ (0x88 ∷ 0 ∷ 0 ∷ 63 ∷ 0x0F ∷ 0 ∷ 0 ∷ 1 ∷ 0x07 ∷ 0 ∷ 0 ∷ 0 ∷ 0x01 ∷ 0 ∷ 0 ∷ 25 ∷ 0x60 ∷ 0 ∷ 0 ∷ 1 ∷ []) ++ information)
           ∷ [])
@@ -350,7 +350,7 @@ b4OfAnOwedTotal =
     record {
       given = writing other (offer 1 45 ∷ anEnd true ∷ separator ∷ offer 25 21 ∷ anEnd true ∷ anEnd true ∷ []);
       expected =
-          wrote (closeOf 1 2 24 ∷ refusal 17 0 ∷ refusal 17 0 ∷ closeOf 2 2 21 ∷ closeOf 3 2 0 ∷ ok ∷ [])
+          wrote (closeOf 1 2 24 ∷ refusedAt 17 0 ∷ refusedAt 17 0 ∷ closeOf 2 2 21 ∷ closeOf 3 2 0 ∷ ok ∷ [])
           (image 1 2 startGroup
           ∷ image 2 2 (from 25 21 ++ zeros 3 ++ (0x80 ∷ 0 ∷ 0 ∷ 43 ∷ 0x60 ∷ 0 ∷ 0 ∷ 21 ∷ []) ++ information)
           ∷ image 3 2 (zeros 24 ++ (0x88 ∷ 0 ∷ 0 ∷ 64 ∷ 0x09 ∷ 0 ∷ 0 ∷ 45 ∷ []) ++ information)

@@ -1,10 +1,11 @@
 -- Adding to a text: one thing after the other, and nothing.
 -- Assumes nothing.
 use Prim.Native.Nat.{ℕ, _+_, _≤_}
-use mathlib.Core.Path.{_≡_, sym}
-use mathlib.Core.List.{List, [], _++_}
+use mathlib.Core.Path.{_≡_, refl, sym}
+use mathlib.Core.List.{List, [], _∷_, _++_}
 use native.Mathlib.Omega.{arith}
-use lib.ListN.{length-append}
+use lib.ListN.{length-append, set}
+use Rattle.numbers.specs.Store.{put}
 use Rattle.numbers.proofs.Stores.{put-put, put-none}
 use Rattle.lines.specs.Added.{Added}
 
@@ -17,6 +18,11 @@ added-then {most} {more} {old} {mid} {text} {new} {newer} {at} {reached} {to} s 
       ends = simp length-append (omega (arith, s .ends, t .ends));
       few = omega (arith, s .few, t .few);
     }
+
+-- One byte stored.
+pub added-byte : (text : List ℕ) (at byte : ℕ) → Added 1 text at (byte ∷ []) (set text at byte) (at + 1)
+unfolding put
+added-byte text at byte = record { same = refl; ends = refl; few = omega arith }
 
 -- Nothing added.
 pub added-none : (most : ℕ) (text : List ℕ) (at : ℕ) → Added most text at [] text at

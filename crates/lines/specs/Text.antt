@@ -1,12 +1,20 @@
--- Document 01, "Bench program": what is printed, as lists of ASCII codes.
+-- Document 01, "Bench program": what is printed, as ASCII codes. The words are written as they are printed.
 -- Assumes nothing.
 use Prim.Native.Nat.{ℕ, zero, suc, _+_, _*_, _/_, _%_}
+use Prim.Native.Char.{code}
+use Prim.Native.String.{String}
+use Prim.Native.String as text
 use mathlib.Core.List.{List, [], _∷_, _++_}
 use mathlib.Core.Bool.{cond}
 use lib.Dec.{ltb}
 use lib.ListN.{getD}
 use Rattle.group.specs.declared.Phase.{Phase}
 use Rattle.group.specs.declared.Phase.the-variants.{Free, Inside, Owed}
+
+-- The codes of a text.
+abbrev pub ascii : String → List ℕ
+ascii text.[] = []
+ascii (text._∷_ c s) = code c ∷ ascii s
 
 -- A number in decimal: its digits, most significant first, with no zero in front of another digit. `most` digits are enough.
 unfoldable pub decimalIn : ℕ → ℕ → List ℕ
@@ -19,7 +27,11 @@ decimal n = decimalIn 10 n
 
 -- A space and a number.
 unfoldable pub field : ℕ → List ℕ
-field n = (32 ∷ []) ++ decimal n
+field n = ascii " " ++ decimal n
+
+-- A word, then a space and a number.
+unfoldable pub labelled : List ℕ → ℕ → List ℕ
+labelled word n = word ++ field n
 
 -- A newline.
 abbrev pub newline : List ℕ
@@ -29,39 +41,24 @@ newline = 10 ∷ []
 abbrev pub kindNames : List (List ℕ)
 kindNames =
     []
-    -- total
-    ∷ (116 ∷ 111 ∷ 116 ∷ 97 ∷ 108 ∷ [])
-    -- separator
-    ∷ (115 ∷ 101 ∷ 112 ∷ 97 ∷ 114 ∷ 97 ∷ 116 ∷ 111 ∷ 114 ∷ [])
-    -- middle
-    ∷ (109 ∷ 105 ∷ 100 ∷ 100 ∷ 108 ∷ 101 ∷ [])
-    -- start
-    ∷ (115 ∷ 116 ∷ 97 ∷ 114 ∷ 116 ∷ [])
-    -- last
-    ∷ (108 ∷ 97 ∷ 115 ∷ 116 ∷ [])
-    -- entire
-    ∷ (101 ∷ 110 ∷ 116 ∷ 105 ∷ 114 ∷ 101 ∷ [])
-    -- skip
-    ∷ (115 ∷ 107 ∷ 105 ∷ 112 ∷ [])
+    ∷ ascii "total"
+    ∷ ascii "separator"
+    ∷ ascii "middle"
+    ∷ ascii "start"
+    ∷ ascii "last"
+    ∷ ascii "entire"
+    ∷ ascii "skip"
     ∷ []
 
 unfoldable pub kindName : ℕ → List ℕ
 kindName kind = getD kindNames kind []
 
--- The words `free`, `inside`, `owed`.
-unfoldable pub phaseName : Phase → List ℕ
-phaseName Free = 102 ∷ 114 ∷ 101 ∷ 101 ∷ []
-phaseName Inside = 105 ∷ 110 ∷ 115 ∷ 105 ∷ 100 ∷ 101 ∷ []
-phaseName Owed = 111 ∷ 119 ∷ 101 ∷ 100 ∷ []
-
 -- "a line `group`, number, `entries`, count"
 unfoldable pub groupLine : ℕ → ℕ → List ℕ
-groupLine number entries =
-    (103 ∷ 114 ∷ 111 ∷ 117 ∷ 112 ∷ [])
-    ++ (field number ++ ((32 ∷ 101 ∷ 110 ∷ 116 ∷ 114 ∷ 105 ∷ 101 ∷ 115 ∷ []) ++ (field entries ++ newline)))
+groupLine number entries = labelled (ascii "group") number ++ (labelled (ascii " entries") entries ++ newline)
 
 -- "then per row name, offset, count"
-unfoldable pub rowLine : ℕ → ℕ → ℕ → List ℕ
+unfoldable pub rowLine : (kind offset count : ℕ) → List ℕ
 rowLine kind offset count = kindName kind ++ (field offset ++ (field count ++ newline))
 
 -- The lines of the first n rows, three numbers each.
@@ -76,10 +73,13 @@ groupLines number entries rows = groupLine number entries ++ rowLines entries ro
 
 -- "A refusal prints `refused R at K`"
 unfoldable pub refusalLine : ℕ → ℕ → List ℕ
-refusalLine number place =
-    (114 ∷ 101 ∷ 102 ∷ 117 ∷ 115 ∷ 101 ∷ 100 ∷ [])
-    ++ (field number ++ ((32 ∷ 97 ∷ 116 ∷ []) ++ (field place ++ newline)))
+refusalLine number place = labelled (ascii "refused") number ++ (labelled (ascii " at") place ++ newline)
 
 -- "`end`, then `free`, `inside` or `owed`, then the sum"
+unfoldable pub ending : Phase → List ℕ
+ending Free = ascii "end free"
+ending Inside = ascii "end inside"
+ending Owed = ascii "end owed"
+
 unfoldable pub endLine : Phase → ℕ → List ℕ
-endLine phase sum = (101 ∷ 110 ∷ 100 ∷ 32 ∷ []) ++ (phaseName phase ++ (field sum ++ newline))
+endLine phase sum = ending phase ++ (field sum ++ newline)

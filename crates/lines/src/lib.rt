@@ -1,8 +1,12 @@
-// The lines that are printed, added to a text one after the other. Each function answers where what it added ends.
+// The lines that are printed, added to a text one after the other. Each function answers where what it added ends, and has a
+// `requires` for the room that it needs at most.
 ghost use Prim.Native.Nat.{_+_, _*_, _≤_};
+ghost use mathlib.Core.Path.{_≡_};
+ghost use mathlib.Core.List.{[], _∷_};
 ghost use lib.ListN.{length};
 ghost use Rattle.lines.specs.Added.{Added};
-ghost use Rattle.lines.specs.Text.{decimal, kindName, phaseName, field, groupLine, rowLine, rowLines, groupLines, refusalLine, endLine};
+ghost use Rattle.lines.specs.Names.{namesBelow};
+ghost use Rattle.lines.specs.Text.{decimal, kindName, ending, field, labelled, groupLine, rowLine, rowLines, groupLines, refusalLine, endLine};
 use group::Phase;
 use numbers::bytes::put_bytes;
 
@@ -13,6 +17,15 @@ fn add(text: &mut [u8], at: usize, word: &[u8]) -> usize
 {
     put_bytes(text, at, word);
     at + word.len()
+}
+
+// One byte.
+fn add_byte(text: &mut [u8], at: usize, byte: u8) -> usize
+    requires { ⌜ at + 1 ≤ length (now text) ⌝ }
+    ensures { λ r. ⌜ Added 1 (now (text .entry)) at (byte ∷ []) (now (text .exit)) r ⌝ }
+{
+    text[at] = byte;
+    at + 1
 }
 
 // A number in decimal.
@@ -30,8 +43,34 @@ fn add_field(text: &mut [u8], at: usize, n: u32) -> usize
     requires { ⌜ at + 11 ≤ length (now text) ⌝ }
     ensures { λ r. ⌜ Added 11 (now (text .entry)) at (field n) (now (text .exit)) r ⌝ }
 {
-    let next = add(text, at, b" ");
+    let next = add_byte(text, at, b' ');
     add_number(text, next, n)
+}
+
+// A word, then a space and a number.
+fn add_labelled(text: &mut [u8], at: usize, word: &[u8], n: u32) -> usize
+    requires { ⌜ at + (length (now word) + 11) ≤ length (now text) ⌝ }
+    ensures { λ r. ⌜ Added (length (now (word .entry)) + 11) (now (text .entry)) at (labelled (now (word .entry)) n) (now (text .exit)) r ⌝ }
+{
+    let said = add(text, at, word);
+    add_field(text, said, n)
+}
+
+// How many bytes the names of the kinds below kind k have together.
+fn names_below(k: u64) -> usize
+    ensures { λ r. ⌜ r ≡ namesBelow k ⌝ }
+{
+    match k {
+        0 => 0,
+        1 => 0,
+        2 => 5,
+        3 => 14,
+        4 => 20,
+        5 => 25,
+        6 => 29,
+        7 => 35,
+        _ => 39,
+    }
 }
 
 // The name of a row's kind.
@@ -39,27 +78,21 @@ fn add_kind(text: &mut [u8], at: usize, kind: u32) -> usize
     requires { ⌜ at + 9 ≤ length (now text) ⌝ }
     ensures { λ r. ⌜ Added 9 (now (text .entry)) at (kindName kind) (now (text .exit)) r ⌝ }
 {
-    match kind {
-        1 => add(text, at, b"total"),
-        2 => add(text, at, b"separator"),
-        3 => add(text, at, b"middle"),
-        4 => add(text, at, b"start"),
-        5 => add(text, at, b"last"),
-        6 => add(text, at, b"entire"),
-        7 => add(text, at, b"skip"),
-        _ => at,
-    }
+    let names = *b"totalseparatormiddlestartlastentireskip";
+    let from = names_below(kind as u64);
+    let to = names_below(kind as u64 + 1);
+    add(text, at, &names[from..to])
 }
 
-// The name of a phase.
-fn add_phase(text: &mut [u8], at: usize, phase: Phase) -> usize
-    requires { ⌜ at + 6 ≤ length (now text) ⌝ }
-    ensures { λ r. ⌜ Added 6 (now (text .entry)) at (phaseName phase) (now (text .exit)) r ⌝ }
+// The words that end a run in a phase.
+fn add_ending(text: &mut [u8], at: usize, phase: Phase) -> usize
+    requires { ⌜ at + 10 ≤ length (now text) ⌝ }
+    ensures { λ r. ⌜ Added 10 (now (text .entry)) at (ending phase) (now (text .exit)) r ⌝ }
 {
     match phase {
-        Phase::Free => add(text, at, b"free"),
-        Phase::Inside => add(text, at, b"inside"),
-        Phase::Owed => add(text, at, b"owed"),
+        Phase::Free => add(text, at, b"end free"),
+        Phase::Inside => add(text, at, b"end inside"),
+        Phase::Owed => add(text, at, b"end owed"),
     }
 }
 
@@ -71,7 +104,7 @@ fn add_row(text: &mut [u8], at: usize, kind: u32, offset: u32, count: u32) -> us
     let named = add_kind(text, at, kind);
     let reached = add_field(text, named, offset);
     let counted = add_field(text, reached, count);
-    add(text, counted, b"\n")
+    add_byte(text, counted, b'\n')
 }
 
 // The lines of the first n rows.
@@ -93,11 +126,9 @@ fn add_head(text: &mut [u8], at: usize, number: u32, entries: u32) -> usize
     requires { ⌜ at + 36 ≤ length (now text) ⌝ }
     ensures { λ r. ⌜ Added 36 (now (text .entry)) at (groupLine number entries) (now (text .exit)) r ⌝ }
 {
-    let word = add(text, at, b"group");
-    let numbered = add_field(text, word, number);
-    let second = add(text, numbered, b" entries");
-    let counted = add_field(text, second, entries);
-    add(text, counted, b"\n")
+    let numbered = add_labelled(text, at, b"group", number);
+    let counted = add_labelled(text, numbered, b" entries", entries);
+    add_byte(text, counted, b'\n')
 }
 
 // All lines of a group.
@@ -114,11 +145,9 @@ pub fn add_refusal(text: &mut [u8], at: usize, number: u32, place: u32) -> usize
     requires { ⌜ at + 33 ≤ length (now text) ⌝ }
     ensures { λ r. ⌜ Added 33 (now (text .entry)) at (refusalLine number place) (now (text .exit)) r ⌝ }
 {
-    let word = add(text, at, b"refused");
-    let numbered = add_field(text, word, number);
-    let second = add(text, numbered, b" at");
-    let placed = add_field(text, second, place);
-    add(text, placed, b"\n")
+    let numbered = add_labelled(text, at, b"refused", number);
+    let placed = add_labelled(text, numbered, b" at", place);
+    add_byte(text, placed, b'\n')
 }
 
 // The line that ends a run.
@@ -126,8 +155,7 @@ pub fn add_end(text: &mut [u8], at: usize, phase: Phase, sum: u32) -> usize
     requires { ⌜ at + 22 ≤ length (now text) ⌝ }
     ensures { λ r. ⌜ Added 22 (now (text .entry)) at (endLine phase sum) (now (text .exit)) r ⌝ }
 {
-    let word = add(text, at, b"end ");
-    let named = add_phase(text, word, phase);
-    let summed = add_field(text, named, sum);
-    add(text, summed, b"\n")
+    let ended = add_ending(text, at, phase);
+    let summed = add_field(text, ended, sum);
+    add_byte(text, summed, b'\n')
 }

@@ -11,7 +11,7 @@ use lib.ListN.{length}
 use Rattle.group.specs.declared.Phase.the-variants as phase
 use Rattle.group.specs.Sizes.{lastNumber, informationLength, entryLength, entriesKept, entryOffset}
 use Rattle.group.specs.Entries.{entriesBelow}
-use Rattle.numbers.proofs.Tests.{both, passed}
+use Rattle.numbers.proofs.Tests.{both, and, passed}
 use Rattle.group.proofs.StateLaws.{Run, run-of-sound, sound-of-run, sum-small}
 use Rattle.reader.specs.declared.Reader.{Reader}
 use Rattle.entry.specs.declared.Cursor.{Cursor}
@@ -21,6 +21,7 @@ use Rattle.reader.specs.declared.ReadAnswer.the-variants as answer
 use Rattle.reader.specs.Answer.{sound, lengthKept, nextIs, rowsFit, readRefusal, opening, closing, groupScan, answered, readCall}
 use Rattle.entry.specs.Bounds.{Cut, Bounded, Within}
 use Rattle.entry.proofs.Scans.{within}
+use Rattle.reader.proofs.Refusals.{none}
 
 -- No refusal before the scan, as facts on numbers.
 pub record Ready (s : Reader) (size number n room : ℕ) : Type 0 where
@@ -54,17 +55,14 @@ module _ (s : Reader) (size number n room : ℕ) where
       }
 
   pub not-refused : Ready s size number n room → readRefusal s size number n room ≡ 0
-  unfolding readRefusal
   not-refused r =
-      rw (
-        sound-of-run _ _ _ _ (r .run),
-        eq-eqb size (s .size) (r .long),
-        eq-eqb number (s .next) (r .next),
-        le-leb number 65535 (r .numbered),
-        le-leb 1 n (r .some),
-        le-leb (32 + 4 * n) (s .size) (r .fits),
-        le-leb (3 * n) room (r .rows),
-      )
+      sym
+      (none s size number n room
+      (sound-of-run _ _ _ _ (r .run))
+      (eq-eqb size (s .size) (r .long))
+      (and (eq-eqb number (s .next) (r .next)) (le-leb number lastNumber (r .numbered)))
+      (and (le-leb 1 n (r .some)) (le-leb (informationLength + entryLength * n) (s .size) (r .fits)))
+      (le-leb (3 * n) room (r .rows)))
 
 -- How the table is cut where nothing is refused before the scan, and how small the scan begins.
 pub cut : {s : Reader} {group : List ℕ} {number n room : ℕ} → Ready s (length group) number n room → Cut group (s .size) n

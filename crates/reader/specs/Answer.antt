@@ -1,14 +1,17 @@
 -- Document 01, "Reading" and "Numbers the firmware sees": what a start and a read answer, the state and the rows they leave.
 -- Assumes nothing.
 use Prim.Native.Nat.{ℕ, _+_, _*_, _-_}
-use mathlib.Core.List.{List, [], _∷_, _++_}
+use mathlib.Core.Path.{_≡_}
+use mathlib.Core.List.{List}
 use mathlib.Core.Bool.{Bool, false, cond, not, _&&_}
 use lib.Dec.{eqb, leb}
 use lib.ListN.{length}
 use Rattle.group.specs.declared.Phase.the-variants as phase
 use Rattle.group.specs.Sizes.{informationLength, lastNumber, entriesKept, entryOffset}
 use Rattle.numbers.specs.Store.{put}
-use Rattle.numbers.specs.Numbers.{bytesOf}
+use Rattle.answer.specs.declared.Told.{Told}
+use Rattle.answer.specs.declared.Told.the-variants.{RefusedAt}
+use Rattle.answer.specs.Answer.{accepted, ifAccepted}
 use Rattle.group.specs.Entries.{entriesBelow}
 use Rattle.group.specs.State.{runSound, startRefusal}
 use Rattle.reader.specs.declared.Reader.{Reader}
@@ -20,7 +23,8 @@ use Rattle.reader.specs.declared.ReaderStart.the-variants as start
 use Rattle.reader.specs.declared.ReadAnswer.{ReadAnswer}
 use Rattle.reader.specs.declared.ReadAnswer.the-variants as answer
 use Rattle.entry.specs.Rules.{standAt, phaseAfter}
-use Rattle.entry.specs.Scan.{scan, rowsFrom}
+use Rattle.entry.specs.Scan.{scan}
+use Rattle.reader.specs.Rows.{rowsFrom}
 
 -- "A reader starts with L and the first number."
 abbrev pub fresh : ℕ → ℕ → Reader
@@ -48,7 +52,7 @@ abbrev pub rowsFit : ℕ → ℕ → Bool
 rowsFit n room = leb (3 * n) room
 
 -- "Read 1, 4, 5, 6, 7": the number of a refusal before the scan, 0 if there is none.
-unfoldable pub readRefusal : Reader → ℕ → ℕ → ℕ → ℕ → ℕ
+unfoldable pub readRefusal : Reader → (length number n room : ℕ) → ℕ
 readRefusal s length number n room =
     cond (not (sound s)) 1
     (cond (not (lengthKept s length)) 4
@@ -75,7 +79,7 @@ answered s (scanned.Reached c) = answer.Accepted (closing s c)
 answered s (scanned.Refused fault place c) = answer.Refused s fault place
 
 -- What a read answers that is lent rows for `room` numbers.
-unfoldable pub readCall : Reader → List ℕ → ℕ → ℕ → ℕ → ReadAnswer
+unfoldable pub readCall : Reader → (group : List ℕ) (number n room : ℕ) → ReadAnswer
 readCall s group number n room =
     cond (eqb (readRefusal s (length group) number n room) 0) (answered s (groupScan s group n))
     (answer.Refused s (readRefusal s (length group) number n room) 0)
@@ -84,21 +88,30 @@ readCall s group number n room =
 unfoldable pub groupRows : Reader → List ℕ → ℕ → List ℕ
 groupRows s group n = rowsFrom 0 (entriesBelow group (s .size - informationLength) n)
 
+-- What the firmware is told of each case.
+abbrev pub told : ReadAnswer → Told
+told (answer.Accepted t) = accepted
+told (answer.Refused s refusal place) = RefusedAt refusal place
+
+abbrev pub startTold : ReaderStart → Told
+startTold (start.Started s) = accepted
+startTold (start.Refused refusal) = RefusedAt refusal 0
+
 -- "Rows after the n-th are untouched." A refusal leaves all of them.
-abbrev pub rowsLeft : ReadAnswer → List ℕ → List ℕ → List ℕ
-rowsLeft (answer.Accepted t) new old = put old 0 new
-rowsLeft (answer.Refused s number place) new old = old
-
--- The numbers that the firmware sees of each case: refusal, place, outcome, group number, entry count, bytes taken.
-abbrev pub told : ReadAnswer → List ℕ
-told (answer.Accepted t) = 0 ∷ 0 ∷ 0 ∷ 0 ∷ 0 ∷ 0 ∷ []
-told (answer.Refused s number place) = number ∷ place ∷ 0 ∷ 0 ∷ 0 ∷ 0 ∷ []
-
-abbrev pub startTold : ReaderStart → List ℕ
-startTold (start.Started s) = 0 ∷ 0 ∷ 0 ∷ 0 ∷ 0 ∷ 0 ∷ []
-startTold (start.Refused number) = number ∷ 0 ∷ 0 ∷ 0 ∷ 0 ∷ 0 ∷ []
+abbrev pub rowsLeft : ReadAnswer → (new old : List ℕ) → List ℕ
+rowsLeft a new old = ifAccepted (told a) (put old 0 new) old
 
 -- The state that a read leaves: "the state as given" where it is refused.
 abbrev pub stateOf : ReadAnswer → Reader
 stateOf (answer.Accepted t) = t
-stateOf (answer.Refused s number place) = s
+stateOf (answer.Refused s refusal place) = s
+
+-- Rows that are lent as numbers. (Lent as bytes they are stored by `inBytes`.)
+abbrev pub asNumbers : List ℕ → List ℕ
+asNumbers rows = rows
+
+-- Reading a group: what it answers, and the rows that it leaves in place of `old`, which has room for `room` numbers and
+-- stores them in this form.
+pub record Reads (form : List ℕ → List ℕ) (s : Reader) (group : List ℕ) (number n room : ℕ) (old : List ℕ) (a : ReadAnswer) (rows : List ℕ) : Type 0 where
+  pub answer : a ≡ readCall s group number n room
+  pub rows-left : rows ≡ rowsLeft a (form (groupRows s group n)) old

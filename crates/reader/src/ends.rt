@@ -1,4 +1,5 @@
-// The scan of a group's table, entry by entry from 1.
+// Both ends of a group's scan: where it begins, by the state that the group before it left, and the state that it leaves once
+// it has reached its own end.
 ghost use mathlib.Core.Path.{_≡_};
 ghost use Prim.Native.Nat.{_≤_};
 ghost use Rattle.group.specs.Sizes.{lastNumber};

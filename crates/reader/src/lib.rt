@@ -1,5 +1,5 @@
-// Reads Basic Groups: document 01, "Which entry may follow" and "Reading". A start, a read with its rows, and a read's
-// judgement without them. None of them requires anything: what may not be is refused with a number and a place.
+// Reads Basic Groups: document 01, "Reading". A start, a read with its rows, and a read's judgement without them. None of them
+// requires anything: what may not be is refused with a number and a place.
 mod ends;
 mod row_bytes;
 mod rows;
@@ -9,7 +9,7 @@ ghost use Prim.Native.Nat.{_/_};
 ghost use lib.ListN.{length};
 ghost use Rattle.numbers.specs.Numbers.{inBytes};
 ghost use Rattle.group.specs.Coded.{flagTable};
-ghost use Rattle.reader.specs.Answer.{readerStartCall, readRefusal, readCall, groupRows, rowsLeft};
+ghost use Rattle.reader.specs.Answer.{readerStartCall, readRefusal, readCall, asNumbers, Reads};
 use entry::ScanEnd;
 use group::Group;
 use group::Phase;
@@ -32,7 +32,7 @@ pub enum ReadAnswer {
     Accepted(Reader),
     Refused {
         state: Reader,
-        number: u32,
+        refusal: u32,
         place: u32,
     },
 }
@@ -41,9 +41,9 @@ impl Reader {
     pub fn start(size: u32, first: u32) -> ReaderStart
         ensures { λ r. ⌜ r ≡ readerStartCall size first ⌝ }
     {
-        let number = group::state::start_refusal(size, first);
-        if number != 0 {
-            return ReaderStart::Refused(number);
+        let refusal = group::state::start_refusal(size, first);
+        if refusal != 0 {
+            return ReaderStart::Refused(refusal);
         }
         ReaderStart::Started(Reader {
             size,
@@ -95,7 +95,7 @@ impl Reader {
         if refusal != 0 {
             return ReadAnswer::Refused {
                 state: self,
-                number: refusal,
+                refusal,
                 place: 0,
             };
         }
@@ -104,7 +104,7 @@ impl Reader {
         match scan::scan_entries(flags, group, size, entries, opening) {
             ScanEnd::Refused(fault, place, _) => ReadAnswer::Refused {
                 state: self,
-                number: fault,
+                refusal: fault,
                 place,
             },
             ScanEnd::Reached(cursor) => ReadAnswer::Accepted(ends::closing(self, cursor)),
@@ -121,8 +121,7 @@ impl Reader {
 
     // Reads one group: the rows are filled once its last entry has passed.
     pub fn read(self, group: &[u8], number: u32, entries: u32, rows: &mut [u32]) -> ReadAnswer
-        ensures answer { λ r. ⌜ r ≡ readCall self (now (group .entry)) number entries (length (now (rows .entry))) ⌝ }
-        ensures rows { λ r. ⌜ now (rows .exit) ≡ rowsLeft r (groupRows self (now (group .entry)) entries) (now (rows .entry)) ⌝ }
+        ensures { λ r. ⌜ Reads asNumbers self (now (group .entry)) number entries (length (now (rows .entry))) (now (rows .entry)) r (now (rows .exit)) ⌝ }
     {
         let flags = group::flags::table();
         let answer = self.judge_in(&flags, group, number, entries, rows.len());
@@ -133,7 +132,7 @@ impl Reader {
             }
             ReadAnswer::Refused {
                 state: _,
-                number: _,
+                refusal: _,
                 place: _,
             } => answer,
         }
@@ -141,8 +140,7 @@ impl Reader {
 
     // The same, with rows lent as bytes, twelve an entry, as C lends them.
     pub fn read_bytes(self, group: &[u8], number: u32, entries: u32, rows: &mut [u8]) -> ReadAnswer
-        ensures answer { λ r. ⌜ r ≡ readCall self (now (group .entry)) number entries (length (now (rows .entry)) / 4) ⌝ }
-        ensures rows { λ r. ⌜ now (rows .exit) ≡ rowsLeft r (inBytes (groupRows self (now (group .entry)) entries)) (now (rows .entry)) ⌝ }
+        ensures { λ r. ⌜ Reads inBytes self (now (group .entry)) number entries (length (now (rows .entry)) / 4) (now (rows .entry)) r (now (rows .exit)) ⌝ }
     {
         let flags = group::flags::table();
         let answer = self.judge_in(&flags, group, number, entries, rows.len() / 4);
@@ -154,7 +152,7 @@ impl Reader {
             }
             ReadAnswer::Refused {
                 state: _,
-                number: _,
+                refusal: _,
                 place: _,
             } => answer,
         }

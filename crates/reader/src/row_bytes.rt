@@ -9,8 +9,9 @@ ghost use Rattle.numbers.specs.Store.{put};
 ghost use Rattle.group.specs.Entries.{entryAt, entriesBelow};
 ghost use Rattle.group.specs.Flags.{meaningOf};
 ghost use Rattle.group.specs.Coded.{flagTable};
-ghost use Rattle.entry.specs.Scan.{rowKind, reachedBy, rowsFrom};
+ghost use Rattle.entry.specs.Scan.{reachedBy};
 ghost use Rattle.entry.specs.Bounds.{Cut, Within};
+ghost use Rattle.reader.specs.Rows.{rowKind, rowsFrom};
 use entry::rules;
 use group::Group;
 

@@ -6,8 +6,8 @@ ghost use Rattle.group.specs.Sizes.{informationLength, entryOffset};
 ghost use Rattle.numbers.specs.Store.{put};
 ghost use Rattle.group.specs.Entries.{entriesBelow};
 ghost use Rattle.group.specs.Coded.{flagTable};
-ghost use Rattle.entry.specs.Scan.{rowsFrom};
 ghost use Rattle.entry.specs.Bounds.{Cut, Within};
+ghost use Rattle.reader.specs.Rows.{rowsFrom};
 use entry::rules;
 use group::Group;
 

@@ -1,9 +1,10 @@
-// The scan of a group's table, entry by entry from 1.
+// The scan of a group's table, entry by entry from 1: the loop over its entries, and a quick path for those that all but a few
+// are (singles). What a scan gives is said in the crate entry.
 mod singles;
 
 ghost use mathlib.Core.Path.{_≡_};
-ghost use Prim.Native.Nat.{_-_, _≤_};
-ghost use Rattle.group.specs.Sizes.{informationLength, lastNumber, entryOffset};
+ghost use Prim.Native.Nat.{_-_};
+ghost use Rattle.group.specs.Sizes.{informationLength, entryOffset};
 ghost use Rattle.group.specs.Entries.{entriesBelow};
 ghost use Rattle.group.specs.Coded.{flagTable};
 ghost use Rattle.entry.specs.Scan.{scan};

@@ -13,7 +13,7 @@ use Rattle.numbers.proofs.NumberLaws.{four-at}
 use Rattle.sections.specs.declared.Sections.{Sections}
 use Rattle.sections.specs.declared.Sections.the-variants.{Next, Bad, Whole}
 use Rattle.sections.specs.declared.Pair.{Pair}
-use Rattle.sections.specs.Sections.{section, pairAt, InRange, Found, Within, Ahead}
+use Rattle.sections.specs.Sections.{largestSize, mostGroups, longestSections, section, pairAt, InRange, Found, Within, Ahead}
 
 -- A section is short, out of range, or kept.
 pub short : (s : List ℕ) (to : ℕ) (b : Bool) (rest : Sections) → length s < to → Next to ≡ section s to b rest
@@ -29,7 +29,7 @@ unfolding section
 kept s to b rest h e = rw (le-ltb (length s) to h, e)
 
 -- What the bounds say of a next section, and of whole ones.
-pub next-ahead : (have to : ℕ) (r : Sections) → Ahead have r → r ≡ Next to → (have < to) × (to ≤ 4112)
+pub next-ahead : (have to : ℕ) (r : Sections) → Ahead have r → r ≡ Next to → (have < to) × (to ≤ longestSections)
 next-ahead have to r h e = rw e at h
 
 pub whole-in-range : (have size groups : ℕ) (r : Sections) → Ahead have r → r ≡ Whole size groups → InRange size groups
@@ -39,8 +39,8 @@ pub within-found : (s : List ℕ) (size groups : ℕ) (r : Sections) → Within 
 within-found s size groups r h e = rw e at h
 
 -- Sizes in range multiply without wrapping.
-pub images-fit : (size groups : ℕ) → size ≤ 4096 → groups ≤ 1024 → groups * size < 4294967296
-images-fit size groups h g = let p : groups * size ≤ 1024 * 4096 = mul-le-mul g h in omega (arith, p)
+pub images-fit : (size groups : ℕ) → size ≤ largestSize → groups ≤ mostGroups → groups * size < 4294967296
+images-fit size groups h g = let p : groups * size ≤ mostGroups * largestSize = mul-le-mul g h in omega (arith, p)
 
 -- The two numbers of a pair are the halves of its four bytes.
 two-at : (s : List ℕ) (at : ℕ) → numberAt 2 s at ≡ getD s at 0 * 256 + getD s (at + 1) 0

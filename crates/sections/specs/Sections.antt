@@ -19,13 +19,17 @@ largestSize = 4096
 abbrev pub mostGroups : ℕ
 mostGroups = 1024
 
+-- The sections before the images where there are the most groups: three counts, L, and the pairs.
+abbrev pub longestSections : ℕ
+longestSections = 16 + 4 * mostGroups
+
 -- One section among the bytes of a run that were read so far: short of byte `to`, where the section ends; out of range; or
 -- kept, and then what the rest is.
 unfoldable pub section : List ℕ → ℕ → Bool → Sections → Sections
 section s to kept rest = cond (ltb (length s) to) (Next to) (cond (not kept) Bad rest)
 
 -- "4-byte count G × L, then the images"; it stands after the pairs.
-unfoldable pub imagesSection : List ℕ → ℕ → ℕ → Sections
+unfoldable pub imagesSection : (s : List ℕ) (size groups : ℕ) → Sections
 imagesSection s size groups =
     section s (12 + 4 * groups + 4) (eqb (numberAt 4 s (12 + 4 * groups)) (groups * size)) (Whole size groups)
 
@@ -61,6 +65,6 @@ Within s Bad = Unit {0}
 Within s (Whole size groups) = Found size groups s
 
 abbrev pub Ahead : ℕ → Sections → Type 0
-Ahead have (Next to) = (have < to) × (to ≤ 16 + 4 * mostGroups)
+Ahead have (Next to) = (have < to) × (to ≤ longestSections)
 Ahead have Bad = Unit {0}
 Ahead have (Whole size groups) = InRange size groups

@@ -1,4 +1,5 @@
-// The sections of a run before its images: what the bytes read so far are, and the pairs among them.
+// The sections of a run before its images: what the bytes read so far are, and the pairs among them. A section is judged as
+// soon as its bytes are there, so that the program reads no further than a run file that is bad.
 ghost use mathlib.Core.Path.{_≡_};
 ghost use Prim.Native.Nat.{_+_, _*_, _≤_};
 ghost use lib.ListN.{length};

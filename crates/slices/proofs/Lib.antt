@@ -1,2 +1,2 @@
-pub mod SliceLaws
-pub mod States
+-- The laws by which each call from C meets its contract.
+pub mod Calls

@@ -7,13 +7,14 @@ use native.Mathlib.Omega.{arith}
 use lib.Dec.{eqb, leb, ltb}
 use borrow.Author.Tests.{not-false, leb-true, le-leb, eqb-true, eqb-false, eq-eqb, ne-eqb, lt-ltb, le-ltb}
 use Rattle.numbers.proofs.Tests.{both, and, passed}
+use Rattle.column.specs.Column.{rowCount, lastRow}
 use Rattle.third.specs.declared.ThirdAnswer.{ThirdAnswer}
 use Rattle.third.specs.declared.ThirdAnswer.the-variants.{Refused}
 use Rattle.third.specs.Answer.{lengthKept, lengthRefusal, oneRefusal, twoRefusal, answerOf}
 
--- A number that is the refusal.
-pub refused : {refusal number : ℕ} (rest : ThirdAnswer) → number ≡ refusal → (number ≡ 0 → ⊥) → Refused number 0 ≡ answerOf refusal rest
-refused {refusal} {number} rest e d = rw (ne-eqb refusal 0 (λ z. d (e ∙ z))) (ap (λ (x : ℕ). Refused x 0) e)
+-- A number found that is the refusal.
+pub refused : {refusal found : ℕ} (rest : ThirdAnswer) → found ≡ refusal → (found ≡ 0 → ⊥) → Refused found 0 ≡ answerOf refusal rest
+refused {refusal} {found} rest e d = rw (ne-eqb refusal 0 (λ z. d (e ∙ z))) (ap (λ (x : ℕ). Refused x 0) e)
 
 pub let-through : {refusal : ℕ} (rest : ThirdAnswer) → refusal ≡ 0 → rest ≡ answerOf refusal rest
 let-through {refusal} rest e = rw (eq-eqb refusal 0 e) refl
@@ -28,17 +29,17 @@ not-found {c} {f} {n} x y e h = rw (le-ltb f n (omega arith)) refl
 -- 46 rows of a row length that is not 0.
 pub record Kept (total n : ℕ) : Type 0 where
   pub some : 1 ≤ n
-  pub long : total ≡ 46 * n
+  pub long : total ≡ rowCount * n
 
 kept-length : (total n : ℕ) → lengthKept total n ≡ true → Kept total n
 unfolding lengthKept
 kept-length total n h =
-    let p = both (leb 1 n) (eqb total (46 * n)) h in
-    record { some = leb-true 1 n (p .0); long = eqb-true total (46 * n) (p .1) }
+    let p = both (leb 1 n) (eqb total (rowCount * n)) h in
+    record { some = leb-true 1 n (p .0); long = eqb-true total (rowCount * n) (p .1) }
 
 length-kept : (total n : ℕ) → Kept total n → lengthKept total n ≡ true
 unfolding lengthKept
-length-kept total n k = and (le-leb 1 n (k .some)) (eq-eqb total (46 * n) (k .long))
+length-kept total n k = and (le-leb 1 n (k .some)) (eq-eqb total (rowCount * n) (k .long))
 
 module _ (total n : ℕ) where
   pub make-kept : lengthRefusal total n ≡ 0 → Kept total n
@@ -49,20 +50,20 @@ module _ (total n : ℕ) where
   unfolding lengthRefusal
   make-lets k = rw (length-kept total n k)
 
-  pub one-kept : (i : ℕ) → oneRefusal total n i ≡ 0 → Kept total n × (i ≤ 45)
+  pub one-kept : (i : ℕ) → oneRefusal total n i ≡ 0 → Kept total n × (i ≤ lastRow)
   unfolding oneRefusal
   one-kept i e =
       let p = passed _ _ e in
-      (kept-length total n (not-false _ (p .0)), leb-true i 45 (not-false _ (passed _ _ (p .1) .0)))
+      (kept-length total n (not-false _ (p .0)), leb-true i lastRow (not-false _ (passed _ _ (p .1) .0)))
 
-  pub one-lets : (i : ℕ) → Kept total n → i ≤ 45 → oneRefusal total n i ≡ 0
+  pub one-lets : (i : ℕ) → Kept total n → i ≤ lastRow → oneRefusal total n i ≡ 0
   unfolding oneRefusal
-  one-lets i k h = rw (length-kept total n k, le-leb i 45 h)
+  one-lets i k h = rw (length-kept total n k, le-leb i lastRow h)
 
   pub record TwoKept (i j : ℕ) : Type 0 where
     pub length : Kept total n
-    pub first : i ≤ 45
-    pub second : j ≤ 45
+    pub first : i ≤ lastRow
+    pub second : j ≤ lastRow
     pub other : i ≡ j → ⊥
 
   pub two-kept : (i j : ℕ) → twoRefusal total n i j ≡ 0 → TwoKept i j
@@ -74,11 +75,11 @@ module _ (total n : ℕ) where
       let s = passed (eqb i j) _ (r .1) in
       record {
         length = kept-length total n (not-false _ (p .0));
-        first = leb-true i 45 (not-false _ (q .0));
-        second = leb-true j 45 (not-false _ (r .0));
+        first = leb-true i lastRow (not-false _ (q .0));
+        second = leb-true j lastRow (not-false _ (r .0));
         other = λ z. eqb-false i j (s .0) z;
       }
 
   pub two-lets : (i j : ℕ) → TwoKept i j → twoRefusal total n i j ≡ 0
   unfolding twoRefusal
-  two-lets i j k = rw (length-kept total n (k .length), le-leb i 45 (k .first), le-leb j 45 (k .second), ne-eqb i j (k .other))
+  two-lets i j k = rw (length-kept total n (k .length), le-leb i lastRow (k .first), le-leb j lastRow (k .second), ne-eqb i j (k .other))

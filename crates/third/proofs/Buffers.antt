@@ -9,26 +9,27 @@ use native.Mathlib.Omega.{arith}
 use lib.ListN.{length, getD, List·getD-eq-default}
 use Rattle.answer.specs.Answer.{ifAccepted}
 use Rattle.numbers.specs.Numbers.{Bytes}
+use Rattle.column.specs.Column.{rowCount, Column, column, Lawful}
+use Rattle.column.specs.Alike.{ColumnBytes, Same}
+use Rattle.restoring.specs.Rows.{eachColumn}
 use Rattle.third.specs.declared.ThirdAnswer.{ThirdAnswer}
 use Rattle.third.specs.declared.ThirdAnswer.the-variants.{Accepted, Refused}
-use Rattle.third.specs.Column.{Column, Lawful}
-use Rattle.third.specs.Rows.{column, eachColumn}
 use Rattle.third.specs.Answer.{Does, told}
-use Rattle.third.specs.Written.{ColumnBytes, Same, Lent, Written}
-use Rattle.third.proofs.Restoring.{lawful-same}
+use Rattle.third.specs.Written.{Lent, Written}
+use Rattle.column.proofs.Restoring.{lawful-same}
 use Rattle.third.proofs.Answers.{Kept}
-use Rattle.third.proofs.Places.{column-each, length-each, same-rows}
+use Rattle.restoring.proofs.Places.{column-each, length-each, same-rows}
 
 pub bytes-of-column : (rows : List ℕ) (n c : ℕ) → Bytes rows → ColumnBytes (column rows n c)
 unfolding column
 bytes-of-column rows n c b i l = b (i * n + c)
 
 -- Rows whose every column is of bytes.
-pub bytes-of-rows : (rows : List ℕ) (n : ℕ) → length rows ≡ 46 * n → ((c : ℕ) → c < n → ColumnBytes (column rows n c)) → Bytes rows
+pub bytes-of-rows : (rows : List ℕ) (n : ℕ) → length rows ≡ rowCount * n → ((c : ℕ) → c < n → ColumnBytes (column rows n c)) → Bytes rows
 unfolding column
-bytes-of-rows rows n e h p = by (decLt p (46 * n))
+bytes-of-rows rows n e h p = by (decLt p (rowCount * n))
   where
-    by : Dec (p < 46 * n) → getD rows p 0 < 256
+    by : Dec (p < rowCount * n) → getD rows p 0 < 256
     by (yes l) =
         let pos : 0 < n = omega arith in
         let whole : p / n * n + p % n ≡ p = div-add-mod' p n in
@@ -43,11 +44,11 @@ module _ (called : ThirdAnswer) (f : Column → Column) (n : ℕ) (old : List �
   pub accepted-left : (outcome : ℕ) → called ≡ Accepted outcome → rows ≡ eachColumn f n old
   accepted-left outcome e = d .rows-left ∙ ap (λ (x : ThirdAnswer). ifAccepted (told x) (eachColumn f n old) old) (d .answer ∙ e)
 
-  pub refused-left : (number place : ℕ) → called ≡ Refused number place → rows ≡ old
-  refused-left number place e = d .rows-left ∙ ap (λ (x : ThirdAnswer). ifAccepted (told x) (eachColumn f n old) old) (d .answer ∙ e)
+  pub refused-left : (refusal place : ℕ) → called ≡ Refused refusal place → rows ≡ old
+  refused-left refusal place e = d .rows-left ∙ ap (λ (x : ThirdAnswer). ifAccepted (told x) (eachColumn f n old) old) (d .answer ∙ e)
 
 -- The buffer with f done to every column, where f gives the columns of w.
-pub back : (f : Column → Column) (n : ℕ) (old w : List ℕ) → length w ≡ 46 * n
+pub back : (f : Column → Column) (n : ℕ) (old w : List ℕ) → length w ≡ rowCount * n
     → ((c : ℕ) → c < n → Same (f (column old n c)) (column w n c)) → eachColumn f n old ≡ w
 back f n old w e h =
     same-rows n (eachColumn f n old) w (length-each f n old) e (λ c i lc li. column-each f n old c i lc li ∙ h c lc i li)

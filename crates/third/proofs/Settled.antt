@@ -4,10 +4,10 @@ use mathlib.Core.Path.{_≡_, sym, ap, _∙_}
 use mathlib.Core.List.{List}
 use Prim.Native.Nat.{ℕ}
 use Rattle.answer.specs.Answer.{ifAccepted}
+use Rattle.column.specs.Column.{Column}
+use Rattle.restoring.specs.Rows.{eachColumn}
 use Rattle.third.specs.declared.ThirdAnswer.{ThirdAnswer}
-use Rattle.third.specs.Column.{Column}
-use Rattle.third.specs.Rows.{eachColumn}
-use Rattle.third.specs.Answer.{checkCall, Does, Makes, RestoresOne, RestoresTwo, Mends, told}
+use Rattle.third.specs.Answer.{Does, Makes, Checks, RestoresOne, RestoresTwo, Mends, told}
 
 settled : (called : ThirdAnswer) (f : Column → Column) (n : ℕ) (old : List ℕ) (a b : ThirdAnswer) (rows rows′ : List ℕ)
     → Does called f n old a rows → Does called f n old b rows′ → (a ≡ b) × (rows ≡ rows′)
@@ -19,7 +19,7 @@ pub make-settled : (n : ℕ) (old : List ℕ) (a b : ThirdAnswer) (rows rows′ 
     → (a ≡ b) × (rows ≡ rows′)
 make-settled n old a b rows rows′ p q = settled _ _ n old a b rows rows′ p q
 
-pub check-settled : (n : ℕ) (rows : List ℕ) (a b : ThirdAnswer) → a ≡ checkCall rows n → b ≡ checkCall rows n → a ≡ b
+pub check-settled : (n : ℕ) (rows : List ℕ) (a b : ThirdAnswer) → Checks n rows a → Checks n rows b → a ≡ b
 check-settled n rows a b p q = p ∙ sym q
 
 pub restore-one-settled : (n i : ℕ) (old : List ℕ) (a b : ThirdAnswer) (rows rows′ : List ℕ) → RestoresOne n i old a rows

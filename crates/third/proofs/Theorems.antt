@@ -1,71 +1,55 @@
--- The theorems of change request 2026-08, each with its sentence above it.
+-- The theorems of change request 2026-08 on the calls, each with its sentence above it.
 -- Assumes nothing.
 use mathlib.Core.Path.{_≡_, refl, sym, ap, _∙_}
 use mathlib.Core.Logic.{inl, inr}
 use mathlib.Core.Bool.{true, false}
 use mathlib.Core.List.{List}
-use Prim.Native.Nat.{ℕ, _+_, _%_, _<_, _≤_}
+use Prim.Native.Nat.{ℕ, _<_, _≤_}
 use native.Mathlib.Decide.{decLt}
 use native.Mathlib.Omega.{arith}
 use lib.ListN.{length}
+use Rattle.column.specs.Column.{rowCount, lastRow, column, Lawful, lawful, restoredOne, restoredTwo, wrongIn, mended, mendable}
+use Rattle.column.specs.Alike.{ColumnBytes, SameBut, SameButTwo, Hopeless}
+use Rattle.restoring.specs.Rows.{eachColumn, firstFailing}
 use Rattle.third.specs.declared.ThirdAnswer.{ThirdAnswer}
 use Rattle.third.specs.declared.ThirdAnswer.the-variants.{Accepted, Refused}
-use Rattle.third.specs.Field.{power, times, product}
-use Rattle.third.specs.Tables.{powerAt, logarithmAt}
-use Rattle.third.specs.Column.{Column, Lawful, lawful, restoredOne, restoredTwo, wrongIn, mended, mendable}
-use Rattle.third.specs.Rows.{column, eachColumn}
-use Rattle.third.specs.Answer.{firstFailing, mendCall, checkCall, Makes, RestoresOne, RestoresTwo, Mends}
-use Rattle.third.specs.Written.{ColumnBytes, Same, SameBut, SameButTwo, Lent, Written, Hopeless, MendTold, CheckTold}
-use Rattle.third.proofs.TableLaws.{power-logarithm}
-use Rattle.third.proofs.FieldLaws.{by-tables}
-use Rattle.third.proofs.Products.{product-power}
-use Rattle.third.proofs.Restoring.{only-two, restored-one, restored-two, lawful-two, bytes-two, two-else}
-use Rattle.third.proofs.Mending.{not-refused, mended-right, no-mending, mended-lawful, mended-bytes, not-hopeless}
-use Rattle.third.proofs.Judging.{is-lawful, is-within, is-beyond, within, of-lawful}
-use Rattle.third.proofs.Failing.{first}
+use Rattle.third.specs.Answer.{firstCheckRow, mendCall, Makes, Checks, RestoresOne, RestoresTwo, Mends}
+use Rattle.third.specs.Written.{Lent, Written, MendTold, CheckTold}
+use Rattle.column.proofs.Restoring.{restored-one, restored-two, lawful-two, bytes-two, two-else}
+use Rattle.column.proofs.Mending.{not-refused, mended-right, no-mending, mended-lawful, mended-bytes, not-hopeless}
+use Rattle.column.proofs.Judging.{is-lawful, is-within, is-beyond, within, of-lawful}
+use Rattle.restoring.proofs.Failing.{first}
 use Rattle.third.proofs.Answers.{let-through, found, not-found, make-lets, one-lets, two-lets}
-use Rattle.third.proofs.Places.{column-each}
+use Rattle.restoring.proofs.Places.{column-each}
 use Rattle.third.proofs.Buffers.{bytes-of-column, kept-of, accepted-left, refused-left, back, written}
 
 true-false : true ≡ false → ⊥
 true-false e = let z : _≡_ {A = ℕ} 0 1 = cc in omega arith
 
--- "A table of powers and one of logarithms .. follow these rules throughout": to add logarithms is to multiply, plainly and modulo
--- the polynomial.
-pub third-product : (a b : ℕ) → a < 256 → b < 256 → (a ≡ 0 → ⊥) → (b ≡ 0 → ⊥)
-    → product a b ≡ powerAt ((logarithmAt a + logarithmAt b) % 255)
-third-product a b ha hb da db =
-    let p = power-logarithm b hb db in
-    ap (product a) (sym (p .0)) ∙ product-power a (logarithmAt b) ha ∙ by-tables (logarithmAt b) a (omega (arith, p .1)) ha da
-
--- A byte times α^k, as the second rule has it, is the plain product.
-pub third-times : (byte k : ℕ) → byte < 256 → times k byte ≡ product byte (power k)
-third-times byte k h = sym (product-power byte k h)
-
 -- "make the two check rows": every column keeps both rules, and the rows of data stay.
 pub third-made : (n : ℕ) (old : List ℕ) (a : ThirdAnswer) (rows : List ℕ) → Lent n old → Makes n old a rows
-    → (a ≡ Accepted 0) × (Written n rows × ((c i : ℕ) → c < n → i < 44 → column rows n c i ≡ column old n c i))
+    → (a ≡ Accepted 0) × (Written n rows × ((c i : ℕ) → c < n → i < firstCheckRow → column rows n c i ≡ column old n c i))
 third-made n old a rows l m =
     let e = sym (let-through (Accepted 0) (make-lets (length old) n (kept-of l))) in
-    let g : rows ≡ eachColumn (restoredTwo 44 45) n old = accepted-left _ _ n old a rows m 0 e in (
+    let g : rows ≡ eachColumn (restoredTwo firstCheckRow lastRow) n old = accepted-left _ _ n old a rows m 0 e in (
       m .answer ∙ e,
       (
-        rw g (written (restoredTwo 44 45) n old l
+        rw g (written (restoredTwo firstCheckRow lastRow) n old l
             (λ c lc. let b = bytes-of-column old n c (l .bytes) in
-            (lawful-two 44 45 low high other (column old n c) b, bytes-two 44 45 low high other (column old n c) b))),
+            (lawful-two firstCheckRow lastRow low high other (column old n c) b, bytes-two firstCheckRow lastRow low high other (column old n c) b))),
         λ c i lc li.
-            ap (λ (x : List ℕ). column x n c i) g ∙ column-each (restoredTwo 44 45) n old c i lc (omega arith)
-            ∙ two-else 44 45 low high other (column old n c) i (λ e. absurd (omega arith)) (λ e. absurd (omega arith)),
+            ap (λ (x : List ℕ). column x n c i) g ∙ column-each (restoredTwo firstCheckRow lastRow) n old c i lc (omega arith)
+            ∙ two-else firstCheckRow lastRow low high other (column old n c) i (λ e. absurd (omega arith)) (λ e. absurd (omega arith)),
       ),
     )
   where
-    low : 44 < 46
+    low : firstCheckRow < rowCount
     low = omega arith
 
-    high : 45 < 46
+    high : lastRow < rowCount
     high = omega arith
 
-    other : _≡_ {A = ℕ} 44 45 → ⊥
+    other : _≡_ {A = ℕ} firstCheckRow lastRow → ⊥
     other e = omega arith
 
 -- Written rows w, and rows as they are found.
@@ -77,7 +61,7 @@ module _ (n : ℕ) (w old : List ℕ) (a : ThirdAnswer) (rows : List ℕ) (whole
   bytes-written c = bytes-of-column w n c (whole .lent .bytes)
 
   -- "restoring gives the written rows whatever the named rows held, if the others are as written": one row.
-  pub third-restored-one : (i : ℕ) → i ≤ 45 → ((c : ℕ) → c < n → SameBut i (column old n c) (column w n c))
+  pub third-restored-one : (i : ℕ) → i ≤ lastRow → ((c : ℕ) → c < n → SameBut i (column old n c) (column w n c))
       → RestoresOne n i old a rows → (a ≡ Accepted 0) × (rows ≡ w)
   third-restored-one i h same r =
       let e = sym (let-through (Accepted 0) (one-lets (length old) n i (kept-of l) h)) in (
@@ -88,7 +72,7 @@ module _ (n : ℕ) (w old : List ℕ) (a : ThirdAnswer) (rows : List ℕ) (whole
       )
 
   -- Two rows.
-  pub third-restored-two : (i j : ℕ) → i ≤ 45 → j ≤ 45 → (i ≡ j → ⊥)
+  pub third-restored-two : (i j : ℕ) → i ≤ lastRow → j ≤ lastRow → (i ≡ j → ⊥)
       → ((c : ℕ) → c < n → SameButTwo i j (column old n c) (column w n c)) → RestoresTwo n i j old a rows → (a ≡ Accepted 0) × (rows ≡ w)
   third-restored-two i j h k d same r =
       let e = sym (let-through (Accepted 0) (two-lets (length old) n i j (record { length = kept-of l; first = h; second = k; other = d }))) in (
@@ -99,7 +83,7 @@ module _ (n : ℕ) (w old : List ℕ) (a : ThirdAnswer) (rows : List ℕ) (whole
       )
 
   -- "Mending is right where at most one byte of the column was changed."
-  pub third-mended : ((c : ℕ) → c < n → (j : ℕ) × (j < 46) × SameBut j (column old n c) (column w n c))
+  pub third-mended : ((c : ℕ) → c < n → (j : ℕ) × (j < rowCount) × SameBut j (column old n c) (column w n c))
       → Mends n old a rows → (a ≡ Accepted 0) × (rows ≡ w)
   third-mended close m =
       let e = none in (
@@ -157,7 +141,7 @@ third-told n old a rows l m = by (decLt c n)
         inl (m .answer ∙ e, rw (accepted-left _ _ n old a rows m 0 e) (written mended n old l (λ d ld. mends d ld (omega (arith, h)))))
 
 -- Checking tells whether every column keeps both rules.
-pub third-checked : (n : ℕ) (rows : List ℕ) (a : ThirdAnswer) → Lent n rows → a ≡ checkCall rows n → CheckTold n rows a
+pub third-checked : (n : ℕ) (rows : List ℕ) (a : ThirdAnswer) → Lent n rows → Checks n rows a → CheckTold n rows a
 third-checked n rows a l e = by (decLt c n)
   where
     c : ℕ
@@ -174,8 +158,3 @@ third-checked n rows a l e = by (decLt c n)
           e ∙ sym (not-found {c = c} _ _ refl (omega (arith, h)) ∙ let-through _ (make-lets (length rows) n (kept-of l))),
           record { lent = l; law = λ d ld. is-lawful (column rows n d) (first lawful rows n 0 n .before d (omega arith) (omega (arith, h))) },
         )
-
--- Columns that keep both rules and differ in at most two rows are equal.
-pub third-only-two : (j k : ℕ) → j < 46 → k < 46 → (j ≡ k → ⊥) → (v w : Column) → Lawful v → Lawful w → ColumnBytes v → ColumnBytes w
-    → SameButTwo j k v w → Same v w
-third-only-two j k lj lk d v w lv lw bv bw h = only-two j k lj lk d v w lv lw bv bw h

@@ -2,35 +2,39 @@
 -- Assumes nothing.
 use mathlib.Core.Path.{_≡_}
 use mathlib.Core.Bool.{Bool, cond, not, _&&_}
-use mathlib.Core.List.{List, [], _∷_}
-use Prim.Native.Nat.{ℕ, zero, suc, _*_}
+use mathlib.Core.List.{List}
+use Prim.Native.Nat.{ℕ, _*_}
 use lib.Dec.{eqb, leb, ltb}
 use lib.ListN.{length}
 use Rattle.answer.specs.declared.Told.{Told}
 use Rattle.answer.specs.declared.Told.the-variants as answer
 use Rattle.answer.specs.Answer.{ifAccepted}
+use Rattle.column.specs.Column.{rowCount, lastRow, Column, lawful, restoredOne, restoredTwo, mended, mendable}
+use Rattle.restoring.specs.Rows.{eachColumn, firstFailing}
 use Rattle.third.specs.declared.ThirdAnswer.{ThirdAnswer}
 use Rattle.third.specs.declared.ThirdAnswer.the-variants.{Accepted, Refused}
-use Rattle.third.specs.Column.{Column, lawful, mendable, restoredOne, restoredTwo, mended}
-use Rattle.third.specs.Rows.{column, eachColumn}
+
+-- "44 of data and 2 of check bytes": the rows of check bytes are this one and the last.
+abbrev pub firstCheckRow : ℕ
+firstCheckRow = 44
 
 -- Unless "40 row length 0 or total length not 46 rows".
 unfoldable pub lengthKept : ℕ → ℕ → Bool
-lengthKept total n = leb 1 n && eqb total (46 * n)
+lengthKept total n = leb 1 n && eqb total (rowCount * n)
 
 -- Unless "41 a row above 45".
 abbrev pub rowKept : ℕ → Bool
-rowKept i = leb i 45
+rowKept i = leb i lastRow
 
 -- The refusals that need no column, "in that order"; 0 for none. Making, checking and mending have the first alone.
 unfoldable pub lengthRefusal : ℕ → ℕ → ℕ
 lengthRefusal total n = cond (not (lengthKept total n)) 40 0
 
-unfoldable pub oneRefusal : ℕ → ℕ → ℕ → ℕ
+unfoldable pub oneRefusal : (total n i : ℕ) → ℕ
 oneRefusal total n i = cond (not (lengthKept total n)) 40 (cond (not (rowKept i)) 41 0)
 
 -- "42 the same row twice"
-unfoldable pub twoRefusal : ℕ → ℕ → ℕ → ℕ → ℕ
+unfoldable pub twoRefusal : (total n i j : ℕ) → ℕ
 twoRefusal total n i j =
     cond (not (lengthKept total n)) 40
     (cond (not (rowKept i)) 41 (cond (not (rowKept j)) 41 (cond (eqb i j) 42 0)))
@@ -39,18 +43,13 @@ twoRefusal total n i j =
 abbrev pub answerOf : ℕ → ThirdAnswer → ThirdAnswer
 answerOf refusal rest = cond (eqb refusal 0) rest (Refused refusal 0)
 
--- The first of k columns from c on that a test fails, c + k where it fails none.
-unfoldable pub firstFailing : (Column → Bool) → List ℕ → ℕ → ℕ → ℕ → ℕ
-firstFailing test rows n c zero = c
-firstFailing test rows n c (suc k) = cond (test (column rows n c)) (firstFailing test rows n (suc c) k) c
-
 abbrev pub makeCall : ℕ → ℕ → ThirdAnswer
 makeCall total n = answerOf (lengthRefusal total n) (Accepted 0)
 
-abbrev pub oneCall : ℕ → ℕ → ℕ → ThirdAnswer
+abbrev pub oneCall : (total n i : ℕ) → ThirdAnswer
 oneCall total n i = answerOf (oneRefusal total n i) (Accepted 0)
 
-abbrev pub twoCall : ℕ → ℕ → ℕ → ℕ → ThirdAnswer
+abbrev pub twoCall : (total n i j : ℕ) → ThirdAnswer
 twoCall total n i j = answerOf (twoRefusal total n i j) (Accepted 0)
 
 -- "43 a column that no single change mends": its place is the first such column.
@@ -64,25 +63,32 @@ abbrev pub checkCall : List ℕ → ℕ → ThirdAnswer
 checkCall rows n =
     answerOf (lengthRefusal (length rows) n) (cond (ltb (firstFailing lawful rows n 0 n) n) (Accepted 1) (Accepted 0))
 
--- What the firmware is told of each case. Where a call is refused "the whole buffer then stays".
+-- What the firmware is told of each case.
 abbrev pub told : ThirdAnswer → Told
 told (Accepted outcome) = answer.Accepted outcome 0 0 0
 told (Refused refusal place) = answer.RefusedAt refusal place
 
--- A call that does f to every column: what it answers, and what it leaves in place of `old`.
+-- A call that does f to every column: what it answers, and what it leaves in place of `old`. Where it is refused "the whole buffer
+-- then stays".
 pub record Does (called : ThirdAnswer) (f : Column → Column) (n : ℕ) (old : List ℕ) (a : ThirdAnswer) (rows : List ℕ) : Type 0 where
   pub answer : a ≡ called
   pub rows-left : rows ≡ ifAccepted (told a) (eachColumn f n old) old
 
--- "make the two check rows": rows 44 and 45 restored from the rows of data.
-abbrev pub Makes : ℕ → List ℕ → ThirdAnswer → List ℕ → Type 0
-Makes n old a rows = Does (makeCall (length old) n) (restoredTwo 44 45) n old a rows
+-- "make the two check rows": they are restored from the rows of data.
+abbrev pub Makes : (n : ℕ) (old : List ℕ) (a : ThirdAnswer) (rows : List ℕ) → Type 0
+Makes n old a rows = Does (makeCall (length old) n) (restoredTwo firstCheckRow lastRow) n old a rows
 
-abbrev pub RestoresOne : ℕ → ℕ → List ℕ → ThirdAnswer → List ℕ → Type 0
+-- "check": the rows are read alone.
+abbrev pub Checks : (n : ℕ) (rows : List ℕ) (a : ThirdAnswer) → Type 0
+Checks n rows a = a ≡ checkCall rows n
+
+-- "restore any one or two named rows from the others"
+abbrev pub RestoresOne : (n i : ℕ) (old : List ℕ) (a : ThirdAnswer) (rows : List ℕ) → Type 0
 RestoresOne n i old a rows = Does (oneCall (length old) n i) (restoredOne i) n old a rows
 
-abbrev pub RestoresTwo : ℕ → ℕ → ℕ → List ℕ → ThirdAnswer → List ℕ → Type 0
+abbrev pub RestoresTwo : (n i j : ℕ) (old : List ℕ) (a : ThirdAnswer) (rows : List ℕ) → Type 0
 RestoresTwo n i j old a rows = Does (twoCall (length old) n i j) (restoredTwo i j) n old a rows
 
-abbrev pub Mends : ℕ → List ℕ → ThirdAnswer → List ℕ → Type 0
+-- "with none named, mend one wrong byte a column"
+abbrev pub Mends : (n : ℕ) (old : List ℕ) (a : ThirdAnswer) (rows : List ℕ) → Type 0
 Mends n old a rows = Does (mendCall old n) mended n old a rows

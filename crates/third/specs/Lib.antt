@@ -1,9 +1,4 @@
--- What a reader of this crate must believe: the field and its tables, a column and its rules, the buffer, and what each call
--- answers and leaves; and what the theorems speak of (Written), and the one file that serves only proofs (Turns).
-pub mod Field
-pub mod Tables
-pub mod Column
-pub mod Rows
+-- What a reader of this crate must believe: what each call answers and leaves (Answer; Rows passes on what it does to every
+-- column), and what the theorems speak of (Written). The field, a column's rules and the buffer stand in the crates below.
 pub mod Answer
 pub mod Written
-pub mod Turns

@@ -1,13 +1,10 @@
 // The optional third code over 46 rows of equal length in one lent buffer: source document 003, 14.5.3, and change request
 // 2026-08. No call requires anything: what may not be is refused with a number and a place, and the buffer then stays.
-mod column;
-mod field;
 mod refusals;
-mod rows;
-mod tables;
 
-ghost use mathlib.Core.Path.{_≡_};
-ghost use Rattle.third.specs.Answer.{checkCall, Makes, RestoresOne, RestoresTwo, Mends};
+ghost use Rattle.third.specs.Answer.{Makes, Checks, RestoresOne, RestoresTwo, Mends};
+use column::Column;
+use field::tables;
 
 // 46 rows: 44 of data, then the two of check bytes. In every call n is the row length.
 pub struct ThirdCode {}
@@ -16,40 +13,38 @@ pub struct ThirdCode {}
 // column of refusal 43, and 0 otherwise.
 pub enum ThirdAnswer {
     Accepted { outcome: u32 },
-    Refused { number: u32, place: u32 },
+    Refused { refusal: u32, place: u32 },
 }
 
 impl ThirdCode {
     pub const FIRST_CHECK_ROW: usize = 44;
 
-    pub const LAST_ROW: usize = 45;
-
     // The two check rows made from the rows of data, whatever they held.
     pub fn make(n: u32, rows: &mut [u8]) -> ThirdAnswer
         ensures { λ r. ⌜ Makes n (now (rows .entry)) r (now (rows .exit)) ⌝ }
     {
-        let number = refusals::length_refusal(rows.len(), n);
-        if number != 0 {
-            return ThirdAnswer::Refused { number, place: 0 };
+        let refusal = refusals::length_refusal(rows.len(), n);
+        if refusal != 0 {
+            return ThirdAnswer::Refused { refusal, place: 0 };
         }
-        rows::restore_both(
+        restoring::restore_both(
             rows,
             n as usize,
             ThirdCode::FIRST_CHECK_ROW,
-            ThirdCode::LAST_ROW,
+            Column::LAST_ROW,
         );
         ThirdAnswer::Accepted { outcome: 0 }
     }
 
     // Whether every column keeps both rules.
     pub fn check(n: u32, rows: &[u8]) -> ThirdAnswer
-        ensures { λ r. ⌜ r ≡ checkCall (now (rows .entry)) n ⌝ }
+        ensures { λ r. ⌜ Checks n (now (rows .entry)) r ⌝ }
     {
-        let number = refusals::length_refusal(rows.len(), n);
-        if number != 0 {
-            return ThirdAnswer::Refused { number, place: 0 };
+        let refusal = refusals::length_refusal(rows.len(), n);
+        if refusal != 0 {
+            return ThirdAnswer::Refused { refusal, place: 0 };
         }
-        if rows::first_broken(rows, n as usize) < n as usize {
+        if restoring::first_broken(rows, n as usize) < n as usize {
             return ThirdAnswer::Accepted { outcome: 1 };
         }
         ThirdAnswer::Accepted { outcome: 0 }
@@ -59,11 +54,11 @@ impl ThirdCode {
     pub fn restore_one(n: u32, row: u32, rows: &mut [u8]) -> ThirdAnswer
         ensures { λ r. ⌜ RestoresOne n row (now (rows .entry)) r (now (rows .exit)) ⌝ }
     {
-        let number = refusals::one_refusal(rows.len(), n, row);
-        if number != 0 {
-            return ThirdAnswer::Refused { number, place: 0 };
+        let refusal = refusals::one_refusal(rows.len(), n, row as usize);
+        if refusal != 0 {
+            return ThirdAnswer::Refused { refusal, place: 0 };
         }
-        rows::restore_row(rows, n as usize, row as usize);
+        restoring::restore_row(rows, n as usize, row as usize);
         ThirdAnswer::Accepted { outcome: 0 }
     }
 
@@ -71,11 +66,11 @@ impl ThirdCode {
     pub fn restore_two(n: u32, first: u32, second: u32, rows: &mut [u8]) -> ThirdAnswer
         ensures { λ r. ⌜ RestoresTwo n first second (now (rows .entry)) r (now (rows .exit)) ⌝ }
     {
-        let number = refusals::two_refusal(rows.len(), n, first, second);
-        if number != 0 {
-            return ThirdAnswer::Refused { number, place: 0 };
+        let refusal = refusals::two_refusal(rows.len(), n, first as usize, second as usize);
+        if refusal != 0 {
+            return ThirdAnswer::Refused { refusal, place: 0 };
         }
-        rows::restore_both(rows, n as usize, first as usize, second as usize);
+        restoring::restore_both(rows, n as usize, first as usize, second as usize);
         ThirdAnswer::Accepted { outcome: 0 }
     }
 
@@ -83,19 +78,19 @@ impl ThirdCode {
     pub fn mend(n: u32, rows: &mut [u8]) -> ThirdAnswer
         ensures { λ r. ⌜ Mends n (now (rows .entry)) r (now (rows .exit)) ⌝ }
     {
-        let number = refusals::length_refusal(rows.len(), n);
-        if number != 0 {
-            return ThirdAnswer::Refused { number, place: 0 };
+        let refusal = refusals::length_refusal(rows.len(), n);
+        if refusal != 0 {
+            return ThirdAnswer::Refused { refusal, place: 0 };
         }
         let logarithms = tables::logarithm_table();
-        let hopeless = rows::first_hopeless(rows, &logarithms, n as usize);
+        let hopeless = restoring::first_hopeless(rows, &logarithms, n as usize);
         if hopeless < n as usize {
             return ThirdAnswer::Refused {
-                number: 43,
+                refusal: 43,
                 place: hopeless as u32,
             };
         }
-        rows::mend_columns(rows, &logarithms, n as usize);
+        restoring::mend_columns(rows, &logarithms, n as usize);
         ThirdAnswer::Accepted { outcome: 0 }
     }
 }

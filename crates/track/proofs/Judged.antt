@@ -7,41 +7,43 @@ use Prim.Native.Nat.{ℕ, zero, suc, _+_, _-_, _≤_, _<_}
 use native.Mathlib.Nat.{add-zero, zero-add, suc-add, add-suc}
 use native.Mathlib.Numerals.{add-one}
 use native.Mathlib.Omega.{arith}
-use borrow.Author.Tests.{eq-eqb, ne-eqb, eqb-true, eqb-false, leb-true}
-use lib.Dec.{eqb, leb}
-use lib.ListN.{length, getD}
+use borrow.Author.Tests.{eq-eqb, ne-eqb, eqb-true, eqb-false}
+use lib.Dec.{eqb}
+use lib.ListN.{length}
 use Rattle.answer.specs.Answer.{refusalTold}
-use Rattle.numbers.specs.Numbers.{between}
-use Rattle.numbers.proofs.Tests.{both, within}
+use Rattle.numbers.proofs.Tests.{both}
+use Rattle.header.specs.Header.{areaKept, packKept}
+use Rattle.header.proofs.TakenApart.{pack-small}
+use Rattle.items.specs.Items.{numbersLength}
+use Rattle.block.specs.Faults.{blockFault}
 use Rattle.track.specs.declared.TrackAnswer.{TrackAnswer}
 use Rattle.track.specs.declared.TrackAnswer.the-variants.{Accepted, Refused}
-use Rattle.track.specs.Sizes.{trackLength, packsLength, itemsLength, numbersLength}
-use Rattle.track.specs.Header.{even, areaKept, packKept, packIn}
-use Rattle.track.specs.Blocks.{blockAt}
+use Rattle.track.specs.Sizes.{trackLength, packsLength, itemsLength}
+use Rattle.track.specs.Blocks.{packIn, blockAt}
 use Rattle.track.specs.Bounds.{PacksKept}
-use Rattle.track.specs.Answer.{lengthsKept, blockFault, packFault, onward, faultFrom, makeCall, readCall, told}
+use Rattle.track.specs.Answer.{lengthsKept, packFault, onward, faultFrom, makeCall, readCall, told}
 
 -- A loop over the blocks: the first fault from here on is the first of all.
 pub record Judging (fault : ℕ → ℕ) (block : ℕ) : Type 0 where
   pub within : block ≤ 16
   pub same : faultFrom fault block (16 - block) ≡ faultFrom fault 0 16
 
-module _ (fault : ℕ → ℕ) (block found : ℕ) (less : block < 16) (is : found ≡ fault block) (j : Judging fault block) where
-  turn : onward found block (faultFrom fault (block + 1) (16 - (block + 1))) ≡ faultFrom fault 0 16
+module _ (fault : ℕ → ℕ) (block refusal : ℕ) (less : block < 16) (is : refusal ≡ fault block) (j : Judging fault block) where
+  turn : onward refusal block (faultFrom fault (block + 1) (16 - (block + 1))) ≡ faultFrom fault 0 16
   unfolding faultFrom
   turn =
       let rest : 16 - block ≡ suc (16 - (block + 1)) = omega arith in
       let all : onward (fault block) block (faultFrom fault (suc block) (16 - (block + 1))) ≡ faultFrom fault 0 16 = rw rest at (j .same) in
       rw (is, add-one block) (rw (add-one block) at all)
 
-  pub judged-fault : (found ≡ 0 → ⊥) → Refused found block ≡ faultFrom fault 0 16
-  judged-fault h = sym (ap (λ (b : Bool). cond b (faultFrom fault (block + 1) (16 - (block + 1))) (Refused found block)) (ne-eqb found 0 h)) ∙ turn
+  pub judged-fault : (refusal ≡ 0 → ⊥) → Refused refusal block ≡ faultFrom fault 0 16
+  judged-fault h = sym (ap (λ (b : Bool). cond b (faultFrom fault (block + 1) (16 - (block + 1))) (Refused refusal block)) (ne-eqb refusal 0 h)) ∙ turn
 
-  pub judged-on : found ≡ 0 → Judging fault (block + 1)
+  pub judged-on : refusal ≡ 0 → Judging fault (block + 1)
   judged-on h =
       record {
         within = omega arith;
-        same = sym (ap (λ (b : Bool). cond b (faultFrom fault (block + 1) (16 - (block + 1))) (Refused found block)) (eq-eqb found 0 h)) ∙ turn;
+        same = sym (ap (λ (b : Bool). cond b (faultFrom fault (block + 1) (16 - (block + 1))) (Refused refusal block)) (eq-eqb refusal 0 h)) ∙ turn;
       }
 
 pub judged-all : (fault : ℕ → ℕ) (block : ℕ) → 16 ≤ block → Judging fault block → Accepted ≡ faultFrom fault 0 16
@@ -51,13 +53,13 @@ judged-all fault block done j =
     rw rest at (j .same)
 
 -- A refusal is no acceptance.
-not-accepted : (number place : ℕ) → Refused number place ≡ Accepted → ⊥
-not-accepted number place e = let z : _≡_ {A = ℕ} 0 1 = cc in omega arith
+not-accepted : (refusal place : ℕ) → Refused refusal place ≡ Accepted → ⊥
+not-accepted refusal place e = let z : _≡_ {A = ℕ} 0 1 = cc in omega arith
 
 -- A block was passed, and the rest with it.
-passed : (b : Bool) (rest : TrackAnswer) (found block : ℕ) → cond b rest (Refused found block) ≡ Accepted → (b ≡ true) × (rest ≡ Accepted)
-passed true rest found block e = (refl, e)
-passed false rest found block e = absurd (not-accepted found block e)
+passed : (b : Bool) (rest : TrackAnswer) (refusal block : ℕ) → cond b rest (Refused refusal block) ≡ Accepted → (b ≡ true) × (rest ≡ Accepted)
+passed true rest refusal block e = (refl, e)
+passed false rest refusal block e = absurd (not-accepted refusal block e)
 
 -- Accepted exactly where no block has a fault.
 no-fault-from : (fault : ℕ → ℕ) (i n k : ℕ) → faultFrom fault i n ≡ Accepted → k < n → fault (i + k) ≡ 0
@@ -78,7 +80,7 @@ unfolding faultFrom
 none-found fault i zero h = refl
 none-found fault i (suc n) h = rw (h i (omega arith)) (none-found fault (suc i) n (λ k less. h k (omega arith)))
 
--- A refusal's number is never 0: a call that tells 0 is accepted.
+-- A refusal is never 0: a call that tells 0 is accepted.
 told-none : (fault : ℕ → ℕ) (i n : ℕ) → refusalTold (told (faultFrom fault i n)) ≡ 0 → faultFrom fault i n ≡ Accepted
 unfolding faultFrom
 told-none fault i zero e = refl
@@ -89,7 +91,7 @@ told-none fault i (suc n) e = by (eqb (fault i) 0) refl (told-none fault (suc i)
     by true x rest h = rest h
     by false x rest h = absurd (eqb-false (fault i) 0 x h)
 
--- The number of a Pack ID that may not be, and of one that may.
+-- The refusal at a Pack ID that may not be, and none at one that may.
 module _ (packs : List ℕ) (block pack : ℕ) (is : pack ≡ packIn packs block) where
   pub pack-faulty : packKept block pack ≡ false → 33 ≡ packFault packs block
   pack-faulty e = rw (← is, e)
@@ -127,18 +129,6 @@ module _ (track packs items numbers : ℕ) where
         eq-eqb items itemsLength (l .items),
         eq-eqb numbers numbersLength (l .numbers),
       )
-
--- What the rules say of numbers: an Area ID has four bits, a Pack ID three.
-pub area-small : (area : ℕ) → areaKept area ≡ true → area < 16
-unfolding areaKept
-area-small area e = omega (arith, leb-true area 15 (both (leb area 15) _ e .0))
-
-pub pack-small : (block pack : ℕ) → packKept block pack ≡ true → pack < 8
-pack-small block pack e = by (even block) refl e
-  where
-    by : (b : Bool) → even block ≡ b → cond b (between 6 pack 7) (eqb pack 0) ≡ true → pack < 8
-    by true x h = omega (arith, within 6 pack 7 h)
-    by false x h = omega (arith, eqb-true pack 0 h)
 
 pub pack-is-kept : (packs : List ℕ) (block : ℕ) → packFault packs block ≡ 0 → packKept block (packIn packs block) ≡ true
 pack-is-kept packs block e = by (packKept block (packIn packs block)) refl e

@@ -12,16 +12,19 @@ use lib.Seq.{drop-cons}
 use Rattle.answer.specs.Answer.{ifAccepted}
 use Rattle.numbers.specs.Numbers.{between}
 use Rattle.numbers.proofs.Tests.{both}
+use Rattle.header.specs.Header.{even, areaKept, packOf, packKept, sw1Kept}
+use Rattle.header.proofs.TakenApart.{pack-small, pack-taken, sw2-apart}
+use Rattle.items.specs.Turns.{chunk, inTurn}
+use Rattle.items.proofs.Turns.{turns-same, turns-chunks, chunk-of-turns, length-turns, get-of-turns}
+use Rattle.block.specs.Block.{dataPartOf, blockOf, sw1In, sw2In, dataPartIn}
+use Rattle.block.specs.Faults.{blockFault}
+use Rattle.block.proofs.OneBlock.{data-part-made, sw2-made-in, made-kept, Sound, sound, block-again}
 use Rattle.track.specs.declared.TrackAnswer.{TrackAnswer}
 use Rattle.track.specs.declared.TrackAnswer.the-variants.{Accepted}
-use Rattle.track.specs.Sizes.{chunk, inTurn}
-use Rattle.track.specs.Header.{even, areaKept, packOf, packKept, sw1Kept, packIn}
-use Rattle.track.specs.Blocks.{placesIn, dataPartOf, blockOf, trackOf, blockAt, sw1In, sw2In, dataPartIn, packsOf, itemsOf, itemsGivenBack}
-use Rattle.track.specs.Answer.{blockFault, readCall, makeCall, Makes, Reads, told}
-use Rattle.track.proofs.Turns.{turns-same, turns-chunks, chunk-of-turns, length-turns, get-of-turns}
+use Rattle.track.specs.Blocks.{packIn, placesIn, trackOf, blockAt, packsOf, itemsOf, itemsGivenBack}
+use Rattle.track.specs.Answer.{readCall, makeCall, Makes, Reads, told}
 use Rattle.track.proofs.BlockLaws.{length-places, length-block-at, length-data-part-at, blocks-wide}
-use Rattle.track.proofs.Judged.{MakeKept, ReadKept, make-kept, make-accepts, pack-right, read-kept, read-accepts, pack-is-kept, pack-small}
-use Rattle.track.proofs.OneBlock.{pack-taken, sw2-apart, data-part-made, sw2-made-in, made-kept, Sound, sound, block-again}
+use Rattle.track.proofs.Judged.{MakeKept, ReadKept, make-kept, make-accepts, pack-right, read-kept, read-accepts, pack-is-kept}
 
 -- Pack IDs one by one.
 one-by-one : (packs : List ℕ) → length packs ≡ 8 → inTurn (λ (k : ℕ). getD packs k 0 ∷ []) 0 8 ≡ packs

@@ -1,14 +1,15 @@
--- The worked header and a block of each row of Table 3, as one theorem over one list, by computation.
+-- A track with the worked header of change request 2026-01, by computation.
 -- Assumes nothing.
 use mathlib.Core.Path.{_≡_, refl}
-use mathlib.Core.List.{map}
-use Rattle.track.specs.Sizes.{inTurn}
-use Rattle.track.specs.Header.{areaKept, headerOf, sw1Kept, sw2Kept}
-use Rattle.track.specs.Blocks.{blockOf, trackOf}
-use Rattle.track.specs.Items.{contents, rowOf, itemNumber}
-use Rattle.track.specs.Answer.{lengthsKept, blockFault, faultFrom, makeCall, readCall}
-use Rattle.track.specs.Worked.{shown, madeOf, expected, tableThree}
+use Rattle.header.specs.Header.{areaKept, headerOf, sw1Kept, sw2Kept}
+use Rattle.header.specs.Worked.{workedHeader}
+use Rattle.items.specs.Turns.{inTurn}
+use Rattle.block.specs.Block.{blockOf}
+use Rattle.block.specs.Faults.{blockFault}
+use Rattle.track.specs.Blocks.{trackOf}
+use Rattle.track.specs.Answer.{lengthsKept, faultFrom, makeCall, readCall}
+use Rattle.track.specs.Worked.{madeOf, shown, expected}
 
-pub worked : map shown tableThree ≡ map expected tableThree
-unfolding inTurn areaKept headerOf sw1Kept sw2Kept blockOf trackOf contents rowOf itemNumber lengthsKept blockFault faultFrom makeCall readCall shown madeOf
+pub worked : shown workedHeader ≡ expected workedHeader
+unfolding areaKept headerOf sw1Kept sw2Kept inTurn blockOf blockFault trackOf lengthsKept faultFrom makeCall readCall madeOf shown
 worked = refl

@@ -2,62 +2,46 @@
 -- Assumes nothing.
 use Prim.Native.Nat.{ℕ, zero, suc}
 use mathlib.Core.Path.{_≡_}
-use mathlib.Core.List.{List, [], _∷_}
-use mathlib.Core.Bool.{Bool, true, cond, not, _&&_}
+use mathlib.Core.List.{List}
+use mathlib.Core.Bool.{Bool, cond, not, _&&_}
 use lib.Dec.{eqb}
 use lib.ListN.{length}
-use Rattle.numbers.specs.Store.{zeros}
 use Rattle.answer.specs.declared.Told.{Told}
 use Rattle.answer.specs.declared.Told.the-variants as answer
 use Rattle.answer.specs.Answer.{accepted, ifAccepted}
+use Rattle.header.specs.Header.{areaKept, packKept}
+use Rattle.items.specs.Items.{numbersLength, numbersOf}
+use Rattle.block.specs.Faults.{blockFault}
 use Rattle.track.specs.declared.TrackAnswer.{TrackAnswer}
 use Rattle.track.specs.declared.TrackAnswer.the-variants.{Accepted, Refused}
-use Rattle.track.specs.Sizes.{blockCount, trackLength, packsLength, itemsLength, numbersLength}
-use Rattle.track.specs.Header.{areaKept, parityOf, packOf, packKept, sw1Kept, sw2Kept, packIn}
-use Rattle.track.specs.Blocks.{trackOf, blockAt, sw1In, sw2In, parityIn, closeIn, packsOf, itemsOf}
-use Rattle.track.specs.Items.{numbersOf}
+use Rattle.track.specs.Sizes.{blockCount, trackLength, packsLength, itemsLength}
+use Rattle.track.specs.Blocks.{packIn, trackOf, blockAt, packsOf, itemsOf}
 
 -- 30: the buffers are of their lengths.
-unfoldable pub lengthsKept : ℕ → ℕ → ℕ → ℕ → Bool
+unfoldable pub lengthsKept : (track packs items numbers : ℕ) → Bool
 lengthsKept track packs items numbers =
     eqb track trackLength && (eqb packs packsLength && (eqb items itemsLength && eqb numbers numbersLength))
-
--- 31: the third byte is the parity of the first two.
-abbrev pub parityKept : List ℕ → Bool
-parityKept block = eqb (parityIn block) (parityOf (sw1In block) (sw2In block))
-
--- 34: with Pack ID 6 the block closes in zeros.
-abbrev pub closeKept : List ℕ → Bool
-closeKept block = cond (eqb (packOf (sw2In block)) 6) (zeros (closeIn block)) true
-
--- At one block 31, 32, 33, 34 in this order: the number of its fault, 0 if it has none.
-unfoldable pub blockFault : ℕ → ℕ → List ℕ → ℕ
-blockFault area number block =
-    cond (not (parityKept block)) 31
-    (cond (not (sw1Kept area number (sw1In block))) 32
-    (cond (not (sw2Kept number (sw2In block))) 33
-    (cond (not (closeKept block)) 34 0)))
 
 -- Making's 33: a Pack ID other than 6 or 7.
 abbrev pub packFault : List ℕ → ℕ → ℕ
 packFault packs block = cond (packKept block (packIn packs block)) 0 33
 
--- "block by block from 0": the first block that has a fault, and its number.
-abbrev pub onward : ℕ → ℕ → TrackAnswer → TrackAnswer
-onward fault block rest = cond (eqb fault 0) rest (Refused fault block)
+-- "block by block from 0": the first block that has a fault, with the refusal that it meets.
+abbrev pub onward : (refusal block : ℕ) (rest : TrackAnswer) → TrackAnswer
+onward refusal block rest = cond (eqb refusal 0) rest (Refused refusal block)
 
-unfoldable pub faultFrom : (ℕ → ℕ) → ℕ → ℕ → TrackAnswer
+unfoldable pub faultFrom : (fault : ℕ → ℕ) (block n : ℕ) → TrackAnswer
 faultFrom fault block zero = Accepted
 faultFrom fault block (suc n) = onward (fault block) block (faultFrom fault (suc block) n)
 
 -- "making gives 30, 32 for the Area ID, 33 for a Pack ID other than 6 or 7". Items and the old bytes of a slice are not looked at.
-unfoldable pub makeCall : ℕ → List ℕ → ℕ → ℕ → ℕ → TrackAnswer
+unfoldable pub makeCall : (area : ℕ) (packs : List ℕ) (items track numbers : ℕ) → TrackAnswer
 makeCall area packs items track numbers =
     cond (not (lengthsKept track (length packs) items numbers)) (Refused 30 0)
     (cond (not (areaKept area)) (Refused 32 0) (faultFrom (packFault packs) 0 blockCount))
 
 -- "30 wrong buffer length, then block by block from 0: 31 .., 32 .., 33 .., 34 .."
-unfoldable pub readCall : ℕ → List ℕ → ℕ → ℕ → ℕ → TrackAnswer
+unfoldable pub readCall : (area : ℕ) (track : List ℕ) (packs items numbers : ℕ) → TrackAnswer
 readCall area track packs items numbers =
     cond (not (lengthsKept (length track) packs items numbers)) (Refused 30 0)
     (faultFrom (λ (block : ℕ). blockFault area block (blockAt track block)) 0 blockCount)

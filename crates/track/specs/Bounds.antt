@@ -2,7 +2,7 @@
 -- Assumes nothing.
 use Prim.Native.Nat.{ℕ, _<_}
 use mathlib.Core.List.{List}
-use Rattle.track.specs.Header.{packIn}
+use Rattle.track.specs.Blocks.{packIn}
 
 -- Each block's Pack ID has room in three bits.
 abbrev pub PacksKept : List ℕ → Type 0

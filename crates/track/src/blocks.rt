@@ -2,11 +2,11 @@
 ghost use mathlib.Core.Path.{_≡_};
 ghost use Prim.Native.Nat.{_<_};
 ghost use lib.ListN.{length};
-ghost use Rattle.track.specs.Sizes.{blockLength};
-ghost use Rattle.track.specs.Answer.{lengthsKept, closeKept, blockFault, makeCall, readCall};
+ghost use Rattle.track.specs.Sizes.{packsLength};
+ghost use Rattle.track.specs.Blocks.{packIn};
+ghost use Rattle.track.specs.Answer.{lengthsKept, makeCall, readCall};
 use crate::Track;
 use crate::TrackAnswer;
-use crate::header;
 
 // Whether the slices are of their lengths.
 fn lengths_kept(track: usize, packs: usize, items: usize, numbers: usize) -> bool
@@ -24,37 +24,16 @@ fn lengths_kept(track: usize, packs: usize, items: usize, numbers: usize) -> boo
     numbers == Track::NUMBERS_LENGTH
 }
 
-// Whether a block closes in zeros where its Pack ID is 6.
-fn close_kept(block: &[u8]) -> bool
-    requires { ⌜ length (now block) ≡ blockLength ⌝ }
-    ensures { λ r. ⌜ r ≡ closeKept (now (block .entry)) ⌝ }
+// A block's Pack ID among those lent.
+pub(crate) fn pack_in(packs: &[u8], block: u8) -> u8
+    requires { ⌜ (length (now packs) ≡ packsLength) × (block < 16) ⌝ }
+    ensures { λ r. ⌜ r ≡ packIn (now (packs .entry)) block ⌝ }
 {
-    if header::pack_of(block[1]) != 6 {
-        return true;
+    if !header::is_even(block) {
+        return 0;
     }
-    numbers::bytes::are_zeros(&block[27..])
-}
-
-// The number of a block's fault, 0 if it has none.
-fn block_fault(area: u32, number: u8, block: &[u8]) -> u32
-    requires { ⌜ length (now block) ≡ blockLength ⌝ }
-    ensures { λ r. ⌜ r ≡ blockFault area number (now (block .entry)) ⌝ }
-{
-    let sw1 = block[0];
-    let sw2 = block[1];
-    if block[2] != sw1 ^ sw2 {
-        return 31;
-    }
-    if !header::sw1_kept(area, number, sw1) {
-        return 32;
-    }
-    if !header::sw2_kept(number, sw2) {
-        return 33;
-    }
-    if !close_kept(block) {
-        return 34;
-    }
-    0
+    let k = (block >> 1) as usize;
+    packs[k]
 }
 
 // What making answers. Nothing is written.
@@ -69,21 +48,21 @@ pub(crate) fn judge_making(
 {
     if !lengths_kept(track, packs.len(), items, numbers) {
         return TrackAnswer::Refused {
-            number: 30,
+            refusal: 30,
             place: 0,
         };
     }
     if !header::area_kept(area) {
         return TrackAnswer::Refused {
-            number: 32,
+            refusal: 32,
             place: 0,
         };
     }
     let mut block: u8 = 0;
     while block < Track::BLOCKS {
-        if !header::pack_kept(block, header::pack_in(packs, block)) {
+        if !header::pack_kept(block, pack_in(packs, block)) {
             return TrackAnswer::Refused {
-                number: 33,
+                refusal: 33,
                 place: block as u32,
             };
         }
@@ -104,7 +83,7 @@ pub(crate) fn judge_reading(
 {
     if !lengths_kept(track.len(), packs, items, numbers) {
         return TrackAnswer::Refused {
-            number: 30,
+            refusal: 30,
             place: 0,
         };
     }
@@ -112,10 +91,10 @@ pub(crate) fn judge_reading(
     while block < Track::BLOCKS {
         let from = Track::BLOCK_LENGTH * (block as usize);
         let to = from + Track::BLOCK_LENGTH;
-        let fault = block_fault(area, block, &track[from..to]);
+        let fault = block::block_fault(area, block, &track[from..to]);
         if fault != 0 {
             return TrackAnswer::Refused {
-                number: fault,
+                refusal: fault,
                 place: block as u32,
             };
         }

@@ -1,40 +1,21 @@
 // Makes and reads the 16 Sub Data Blocks of a track: source document 003, 9.4.9, and change request 2026-01. Both calls work
-// on lent byte slices. Neither requires anything: what may not be is refused with a number and a block.
+// on lent byte slices. Neither requires anything: what may not be is refused, with the block where it stands.
 mod blocks;
 mod filling;
-mod header;
-mod items;
 
 ghost use Rattle.track.specs.Answer.{Makes, Reads};
 
-// A track: its tape areas (an Area ID without its first bit), the frames of the log, its blocks and places, and the lengths of
-// what is lent for it.
+// A track: its blocks, and the lengths of what is lent for it.
 pub struct Track {}
 
 // What making and reading answer.
 pub enum TrackAnswer {
     Accepted,
-    Refused { number: u32, place: u32 },
+    Refused { refusal: u32, place: u32 },
 }
 
 impl Track {
-    pub const REFERENCE_AREA: u32 = 1;
-
-    pub const SYSTEM_AREA: u32 = 2;
-
-    pub const DATA_AREA: u32 = 4;
-
-    pub const EOD_AREA: u32 = 5;
-
-    pub const LOG_FIRST: u32 = 71;
-
-    pub const LOG_LAST: u32 = 95;
-
     pub const BLOCKS: u8 = 16;
-
-    pub const PLACES: usize = 64;
-
-    pub const ITEM_LENGTH: usize = 8;
 
     pub const DATA_PART_LENGTH: usize = 32;
 
@@ -67,7 +48,7 @@ impl Track {
                 answer
             }
             TrackAnswer::Refused {
-                number: _,
+                refusal: _,
                 place: _,
             } => answer,
         }
@@ -93,7 +74,7 @@ impl Track {
                 answer
             }
             TrackAnswer::Refused {
-                number: _,
+                refusal: _,
                 place: _,
             } => answer,
         }

@@ -23,9 +23,10 @@ use Rattle.reader.proofs.Sound.{sound-again}
 use Rattle.layout.specs.Layout.{Image}
 use Rattle.layout.specs.Accepting.{Accepts, Lent, lentTo}
 use Rattle.layout.proofs.Complete.{begun-at}
-use Rattle.slices.specs.Slices.{readerLength, answerLength, lengthsKept, phaseNumber, phaseMeant, readerOf, readerNumbers, readerMeant}
-use Rattle.c_reader.specs.Calls.{Outcome, answered, ofLengths, ofMeaning, ddsReaderStart, ddsRead}
-use Rattle.slices.proofs.States.{reader-of-bytes, sound-reader-fits}
+use Rattle.slices.specs.Call.{Left, left, answerLength, lengthsKept, called}
+use Rattle.states.specs.States.{readerLength, phaseNumber, phaseMeant, readerOf, readerNumbers, readerMeant}
+use Rattle.c_reader.specs.Calls.{ddsReaderStart, ddsRead}
+use Rattle.states.proofs.StateLaws.{reader-of-bytes, sound-reader-fits}
 use Rattle.trip.specs.ThroughC.{Loan, LentC, AcceptsC}
 use Rattle.trip.proofs.SmallRows.{small-rows, length-group-rows}
 
@@ -34,8 +35,8 @@ abbrev pub slice : Reader → List ℕ
 slice s = inBytes (readerNumbers s)
 
 -- What a call that is accepted returns and leaves.
-abbrev accepted : Reader → List ℕ → Outcome
-accepted s lent = answered (0 ∷ 0 ∷ 0 ∷ 0 ∷ 0 ∷ 0 ∷ []) (slice s) lent
+abbrev accepted : Reader → List (List ℕ) → Left
+accepted s lent = left 0 (slice s ∷ lent) (inBytes (0 ∷ 0 ∷ 0 ∷ 0 ∷ 0 ∷ 0 ∷ []))
 
 -- Slices of their lengths are let through.
 long-slice : (s : Reader) → length (slice s) ≡ readerLength
@@ -65,8 +66,8 @@ kept-lengths state answer e f = rw (e, f)
 -- The start.
 pub starts-through : (size first : ℕ) (s : Reader) (state answer : List ℕ) → readerStartCall size first ≡ start.Started s → length state ≡ readerLength → length answer ≡ answerLength →
     ddsReaderStart size first state answer ≡ accepted s []
-unfolding ddsReaderStart ofLengths
-starts-through size first s state answer e f g = rw (kept-lengths state answer f g, e)
+unfolding ddsReaderStart called
+starts-through size first s state answer e f g = rw (kept-lengths state answer f g, e, begun-at size first s e .1)
 
 pub sound-fresh : (size first : ℕ) (s : Reader) → readerStartCall size first ≡ start.Started s → sound s ≡ true
 sound-fresh size first s e =
@@ -79,8 +80,8 @@ sound-fresh size first s e =
 -- A read.
 read-through : (s t : Reader) (group : List ℕ) (number n : ℕ) (rows answer : List ℕ) → sound s ≡ true → length answer ≡ answerLength →
     readCall s group number n (length rows / 4) ≡ read.Accepted t →
-    ddsRead (slice s) group number n rows answer ≡ accepted t (put rows 0 (inBytes (groupRows s group n)))
-unfolding ddsRead ofLengths ofMeaning
+    ddsRead (slice s) group number n rows answer ≡ accepted t (put rows 0 (inBytes (groupRows s group n)) ∷ [])
+unfolding ddsRead called
 read-through s t group number n rows answer h l e = rw (kept-lengths (slice s) answer (long-slice s) l, meant-slice s, held-slice s h, e)
 
 -- The row numbers for which the loans have room.

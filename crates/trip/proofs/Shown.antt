@@ -9,15 +9,16 @@ use mathlib.Core.Path.{_≡_, refl}
 use borrow.Author.Tests.{leb-true}
 use lib.ListN.{length, replicate}
 use Rattle.numbers.specs.Numbers.{inBytes}
-use Rattle.laying.specs.Calls.{startTold}
-use Rattle.laying.specs.Calls.Call.{aRecord, aSeparator, anEnd}
+use Rattle.writer.specs.Calls.{stateOf}
+use Rattle.writer.specs.Calls.Call.{aRecord, aSeparator, anEnd}
 use Rattle.layout.specs.Items.Item.{recordItem, separatorItem}
 use Rattle.layout.specs.Layout.{Image}
 use Rattle.layout.specs.Writing.{Account, blank, totalLaid, inHand, afterRecord, afterSeparator, noted, imageOf}
 use Rattle.layout.specs.BenchTable.{from}
 use Rattle.layout.proofs.Bench.{opens}
-use Rattle.slices.specs.Slices.{lengthsKept, writerOf, writerMeant}
-use Rattle.c_reader.specs.Calls.{ofLengths, ofMeaning, ddsWriterStart, writing, ddsRecord, ddsSeparator, ddsEnd}
+use Rattle.slices.specs.Call.{lengthsKept, called}
+use Rattle.states.specs.States.{writerOf, writerMeant}
+use Rattle.c_writer.specs.Calls.{ddsWriterStart, written, ddsRecord, ddsSeparator, ddsEnd}
 use Rattle.trip.specs.ThroughC.{callC, Loan, LentC, WroteC}
 use Rattle.trip.specs.ThroughC.WroteC.{begins, goes-on, closes, refused}
 use Rattle.trip.specs.Stated.{GivesBackC}
@@ -41,7 +42,7 @@ loan long = record { rows = replicate long 0xAA; answer = replicate 24 0xBB }
 -- and the answer slices hold anything; one answer slice is a byte short, and one record empty.
 pub spanned : Shows 3 (record { finished = recordItem (from 1 45) ∷ separatorItem 1 ∷ []; begun = []; asked = [] })
     (record { finished = recordItem (from 1 45) ∷ separatorItem 1 ∷ []; begun = []; asked = [] })
-unfolding opens blank totalLaid inHand afterRecord afterSeparator noted imageOf from inBytes startTold lengthsKept writerOf writerMeant ofLengths ofMeaning ddsWriterStart writing ddsRecord ddsSeparator ddsEnd callC
+unfolding opens blank totalLaid inHand afterRecord afterSeparator noted imageOf from inBytes stateOf lengthsKept writerOf writerMeant called ddsWriterStart written ddsRecord ddsSeparator ddsEnd callC
 spanned =
     record {
       state = _;

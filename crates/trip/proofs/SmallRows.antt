@@ -23,7 +23,8 @@ use Rattle.entry.specs.declared.Cursor.{Cursor}
 use Rattle.entry.specs.declared.ScanEnd.the-variants.{Reached}
 use Rattle.reader.specs.declared.ReadAnswer.the-variants as answer
 use Rattle.entry.specs.Rules.{entryFault, skipKept, countFault}
-use Rattle.entry.specs.Scan.{after, isLast, scan, rowKind, reachedBy, rowsFrom}
+use Rattle.entry.specs.Scan.{after, isLast, scan, reachedBy}
+use Rattle.reader.specs.Rows.{rowKind, rowsFrom}
 use Rattle.entry.specs.Bounds.{Bounded}
 use Rattle.reader.specs.Answer.{opening, groupScan, groupRows, readCall}
 use Rattle.entry.proofs.Faults.{kept, unknown-fault, part-kept, stays}

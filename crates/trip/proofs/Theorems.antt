@@ -11,8 +11,9 @@ use Rattle.layout.specs.Reading.{itemsRead, begunRead}
 use Rattle.layout.specs.Stated.{EndsWith}
 use Rattle.layout.specs.Writing.{Account}
 use Rattle.layout.proofs.Theorems.{returned}
-use Rattle.slices.specs.Slices.{readerLength, answerLength, writerOf}
-use Rattle.c_reader.specs.Calls.{Outcome, ddsReaderStart}
+use Rattle.slices.specs.Call.{Left, answerLength}
+use Rattle.states.specs.States.{readerLength, writerOf}
+use Rattle.c_reader.specs.Calls.{ddsReaderStart, readerLeft}
 use Rattle.trip.specs.ThroughC.{Loan, LentC, WroteC, AcceptsC}
 use Rattle.trip.specs.Stated.{Written, GivesBackC}
 use Rattle.trip.proofs.Writing.{written-through}
@@ -37,10 +38,10 @@ module _ (size first : ℕ) (state group : List ℕ) (run : List Image) (closed 
       let h = sound-fresh size first (y .reader) (y .starts) in
       let reads = accepted-through (a .accepts) h l (a .buffers) in
       record {
-        starts = ap (λ (o : Outcome). o .number) s;
+        starts = ap (λ (o : Left). o .refusal) s;
         rows = a .rows;
         final = slice (a .final);
-        accepts = subst (λ (o : Outcome). AcceptsC (o .state) run loans (a .rows) (slice (a .final))) (sym s) reads;
+        accepts = subst (λ (o : Left). AcceptsC (readerLeft o) run loans (a .rows) (slice (a .final))) (sym s) reads;
         items = y .items;
         begun = y .begun;
         ends = subst (λ (r : Reader). EndsWith (closed .begun) r) (sym (held-slice (a .final) (sound-end (a .accepts) h))) (a .ends);
@@ -48,8 +49,8 @@ module _ (size first : ℕ) (state group : List ℕ) (run : List Image) (closed 
 
   -- Whatever slices C lends, and whatever stands in them: a reading of those groups in which every call returned 0 gives back the
   -- account at the last close.
-  pub c-read-back : (old answer : List ℕ) (loans : List Loan) (rows : List (List ℕ)) (final : List ℕ) → ddsReaderStart size first old answer .number ≡ 0 →
-      AcceptsC (ddsReaderStart size first old answer .state) run loans rows final → (itemsRead run rows ≡ closed .finished) × (begunRead run rows ≡ closed .begun)
+  pub c-read-back : (old answer : List ℕ) (loans : List Loan) (rows : List (List ℕ)) (final : List ℕ) → ddsReaderStart size first old answer .refusal ≡ 0 →
+      AcceptsC (readerLeft (ddsReaderStart size first old answer)) run loans rows final → (itemsRead run rows ≡ closed .finished) × (begunRead run rows ≡ closed .begun)
   c-read-back old answer loans rows final e a =
       let long = start-lent size first old answer e in
       let y = c-returned old answer loans (long .0) (long .1) (lent-enough a) in

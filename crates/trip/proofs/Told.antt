@@ -14,26 +14,26 @@ use Rattle.group.specs.declared.Phase.the-variants.{Free, Inside, Owed}
 use Rattle.group.specs.Sizes.{longestRecord}
 use Rattle.group.specs.State.{startRefusal}
 use Rattle.laying.specs.declared.Writer.{Writer}
-use Rattle.laying.specs.declared.WriterStart.{WriterStart}
-use Rattle.laying.specs.declared.WriterStart.the-variants as start
-use Rattle.laying.specs.declared.WriteAnswer.{WriteAnswer}
-use Rattle.laying.specs.declared.WriteAnswer.the-variants.{Finished, Closed, Refused}
+use Rattle.writer.specs.declared.WriterStart.{WriterStart}
+use Rattle.writer.specs.declared.WriterStart.the-variants as start
+use Rattle.writer.specs.declared.WriteAnswer.{WriteAnswer}
+use Rattle.writer.specs.declared.WriteAnswer.the-variants.{Finished, Closed, Refused}
 use Rattle.laying.specs.Laying.{Desk, desk, layEntry, layData, layPart, moved, warnState, payOwed, ready}
-use Rattle.laying.specs.Calls.{Done, done, finished, closed, orRefused, freshState, writerStartCall, recordAccepted, recordCall, separatorAccepted, separatorCall, endAccepted, endCall, Call, call}
-use Rattle.laying.specs.Calls.Call.{aRecord, aSeparator, anEnd}
-use Rattle.writer.proofs.SoundLaws.{Sound}
-use Rattle.writer.proofs.Accepted.{Offered, fits, record-accepted, separator-accepted, end-accepted}
+use Rattle.writer.specs.Calls.{Done, done, finished, closed, orRefused, freshState, writerStartCall, recordAccepted, recordCall, separatorAccepted, separatorCall, endAccepted, endCall, Call, call}
+use Rattle.writer.specs.Calls.Call.{aRecord, aSeparator, anEnd}
+use Rattle.sound.proofs.SoundLaws.{Sound}
+use Rattle.sound.proofs.Accepted.{Offered, fits, record-accepted, separator-accepted, end-accepted}
 use Rattle.writer.proofs.CallLaws.{RecordedFree, recorded-free, RecordedInside, recorded-inside, SeparatorLaid, separator-laid, EndLaid, end-laid}
 
 -- What is so of every answer.
 abbrev pub Tells : WriteAnswer → Type 0
 Tells (Finished s) = Unit {0}
 Tells (Closed s number entries taken) = (number < 256 ^ 4) × ((entries < 256 ^ 4) × (taken < 256 ^ 4))
-Tells (Refused s number) = number ≡ 0 → ⊥
+Tells (Refused s refusal) = refusal ≡ 0 → ⊥
 
 abbrev pub TellsStart : WriterStart → Type 0
 TellsStart (start.Started s) = Unit {0}
-TellsStart (start.Refused number) = number ≡ 0 → ⊥
+TellsStart (start.Refused refusal) = refusal ≡ 0 → ⊥
 
 -- A close's numbers, by those of the desk that it closes.
 closed-tells : (taken : ℕ) (v : Desk) → v .state .next ≤ 65536 → v .state .entries ≤ 126640 → taken ≤ longestRecord → Tells (closed taken v .answer)

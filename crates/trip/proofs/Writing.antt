@@ -6,27 +6,31 @@ use mathlib.Core.List.{List, [], _∷_, _++_}
 use Prim.Native.Nat.{ℕ, _^_, _<_}
 use native.Mathlib.Omega.{arith}
 use lib.Dec.{eqb}
-use lib.ListN.{length, getD}
+use lib.ListN.{length}
 use Rattle.numbers.proofs.InBytes.{length-in-bytes, field-of-bytes}
 use Rattle.numbers.specs.Numbers.{inBytes}
 use Rattle.group.specs.declared.Phase.{Phase}
 use Rattle.group.specs.declared.Phase.the-variants.{Free, Inside, Owed}
 use Rattle.group.specs.Sizes.{informationLength}
 use Rattle.laying.specs.declared.Writer.{Writer}
-use Rattle.laying.specs.declared.WriterStart.{WriterStart}
-use Rattle.laying.specs.declared.WriterStart.the-variants as start
-use Rattle.laying.specs.declared.WriteAnswer.{WriteAnswer}
-use Rattle.laying.specs.declared.WriteAnswer.the-variants.{Finished, Closed, Refused}
-use Rattle.laying.specs.State.{writerSound}
+use Rattle.writer.specs.declared.WriterStart.{WriterStart}
+use Rattle.writer.specs.declared.WriterStart.the-variants as start
+use Rattle.writer.specs.declared.WriteAnswer.{WriteAnswer}
+use Rattle.writer.specs.declared.WriteAnswer.the-variants.{Finished, Closed, Refused}
+use Rattle.sound.specs.State.{writerSound}
 use Rattle.laying.specs.Laying.{Desk, desk}
-use Rattle.laying.specs.Calls.{Done, done, writerStartCall, startTold, recordCall, separatorCall, endCall, Call, call, refusalOf, told, stateOf}
-use Rattle.laying.specs.Calls.Call.{aRecord, aSeparator, anEnd}
+use Rattle.writer.specs.Calls.{Done, done, freshState, writerStartCall, startTold, recordCall, separatorCall, endCall, Call, call, refusalOf, told, stateOf}
+use Rattle.writer.specs.Calls.Call.{aRecord, aSeparator, anEnd}
 use Rattle.writer.proofs.Theorems.{refusal-told, refused-stays, sound-after, sound-start}
 use Rattle.layout.specs.Layout.{Image}
 use Rattle.layout.specs.Writing.{Account, noted, AsAsked, imageOf, Wrote}
-use Rattle.slices.specs.Slices.{writerLength, answerLength, lengthsKept, phaseNumber, phaseMeant, b4Number, b4Meant, writerOf, writerNumbers, writerMeant}
-use Rattle.c_reader.specs.Calls.{Outcome, outcome, answered, ofLengths, ofMeaning, writerStarted, ddsWriterStart, written, writing, ddsRecord, ddsSeparator, ddsEnd}
-use Rattle.slices.proofs.States.{writer-of-bytes, sound-writer-fits}
+use Rattle.answer.specs.Answer.{numbersTold, refusalTold, ifAccepted}
+use Rattle.slices.specs.Call.{Left, left, answerLength, lengthsKept, called}
+use Rattle.slices.proofs.Calls.{let-through, leaves}
+use Rattle.states.specs.States.{writerLength, phaseNumber, phaseMeant, b4Number, b4Meant, writerOf, writerNumbers, writerBytes, writerMeant}
+use Rattle.c_writer.specs.Calls.{ddsWriterStart, written, writing, ddsRecord, ddsSeparator, ddsEnd, writerLeft, groupLeft}
+use Rattle.states.proofs.StateLaws.{writer-of-bytes, sound-writer-fits}
+use Rattle.c_writer.proofs.Laws.{started-fresh}
 use Rattle.trip.specs.ThroughC.{callC, phaseSeen, outcomeSeen, numberSeen, entriesSeen, finishedSeen, closedSeen, WroteC}
 use Rattle.trip.specs.Stated.{Written}
 use Rattle.trip.proofs.Told.{Tells, TellsStart, call-tells, start-tells}
@@ -48,17 +52,23 @@ encoded-meant s =
     let b = b4-meant (s .warned) in
     rw (field-of-bytes (writerNumbers s) 2 (omega arith) (p .0), field-of-bytes (writerNumbers s) 6 (omega arith) (b .0), p .1, b .1)
 
+-- What the writer's own call leaves, once it is made.
+abbrev own : Done → (state group : List ℕ) → Left
+own d state group =
+    left (refusalTold (told (d .answer))) (ifAccepted (told (d .answer)) (writerBytes (stateOf (d .answer)) ∷ d .group ∷ []) (state ∷ group ∷ []))
+    (inBytes (numbersTold (told (d .answer))))
+
 -- A call through its slices: refused by the answer slice's length, with nothing written, or the writer's own.
-data Way (d : Done) (state group answer : List ℕ) : Outcome → Type 0 where
-  turned-away : Way d state group answer (outcome 1 state group answer)
-  made : Way d state group answer (written state d)
+data Way (d : Done) (state group answer : List ℕ) : Left → Type 0 where
+  turned-away : Way d state group answer (left 1 (state ∷ group ∷ []) answer)
+  made : Way d state group answer (own d state group)
 
 way-writing : (f : Bool → Desk → Done) (warn : Bool) (state group answer : List ℕ) → length state ≡ writerLength → writerMeant state ≡ true →
     Way (f warn (desk (writerOf state) group)) state group answer (writing f state group (b4Number warn) answer)
-unfolding writing ofLengths ofMeaning lengthsKept
+unfolding written called lengthsKept
 way-writing f warn state group answer long meant = by warn (eqb (length answer) answerLength)
   where
-    one : (d : Done) (p : Bool) → Way d state group answer (cond p (written state d) (outcome 1 state group answer))
+    one : (d : Done) (p : Bool) → Way d state group answer (cond p (own d state group) (left 1 (state ∷ group ∷ []) answer))
     one d true = made
     one d false = turned-away
 
@@ -74,11 +84,11 @@ way (aSeparator value warn) state group answer long meant = way-writing (separat
 way (anEnd warn) state group answer long meant = way-writing endCall warn state group answer long meant
 
 -- An accepted call as C sees it: its answer, a state slice that holds its state, and its group.
-record Step (d : Done) (a : WriteAnswer) (o : Outcome) : Type 0 where
+record Step (d : Done) (a : WriteAnswer) (o : Left) : Type 0 where
   answer : d .answer ≡ a
-  sound : writerSound (writerOf (o .state)) ≡ true
-  bytes : inBytes (writerNumbers (writerOf (o .state))) ≡ o .state
-  lent : d .group ≡ o .lent
+  sound : writerSound (writerOf (writerLeft o)) ≡ true
+  bytes : inBytes (writerNumbers (writerOf (writerLeft o))) ≡ writerLeft o
+  lent : d .group ≡ groupLeft o
 
 back : (s : Writer) → writerSound s ≡ true → writerOf (inBytes (writerNumbers s)) ≡ s
 back s h = writer-of-bytes s (sound-writer-fits s h)
@@ -90,72 +100,75 @@ bytes-back : (s : Writer) → writerSound s ≡ true → inBytes (writerNumbers 
 bytes-back s h = ap (λ (v : Writer). inBytes (writerNumbers v)) (back s h)
 
 abbrev SoundAfter : WriteAnswer → Type 0
-SoundAfter a = getD (told a) 0 0 ≡ 0 → writerSound (stateOf a) ≡ true
+SoundAfter a = refusalTold (told a) ≡ 0 → writerSound (stateOf a) ≡ true
 
-seen-finished : (state : List ℕ) (a : WriteAnswer) (g : List ℕ) → Tells a → SoundAfter a → getD (told a) 0 0 ≡ 0 → outcomeSeen (written state (done a g)) ≡ 0 →
-    Step (done a g) (finishedSeen (written state (done a g))) (written state (done a g))
-unfolding told stateOf
-seen-finished state (Finished s) g t h e f =
+seen-finished : (state group : List ℕ) (a : WriteAnswer) (g : List ℕ) → Tells a → SoundAfter a → refusalTold (told a) ≡ 0 → outcomeSeen (own (done a g) state group) ≡ 0 →
+    Step (done a g) (finishedSeen (own (done a g) state group)) (own (done a g) state group)
+unfolding stateOf
+seen-finished state group (Finished s) g t h e f =
     record { answer = ap Finished (sym (back s (h e))); sound = sound-back s (h e); bytes = bytes-back s (h e); lent = refl }
-seen-finished state (Closed s number entries taken) g t h e f =
+seen-finished state group (Closed s number entries taken) g t h e f =
     let one = field-of-bytes (0 ∷ 0 ∷ 1 ∷ number ∷ entries ∷ taken ∷ []) 2 (omega arith) (omega arith) in
     let z : _≡_ {A = ℕ} 1 0 = sym one ∙ f in
     absurd (omega arith)
-seen-finished state (Refused s number) g t h e f = absurd (t e)
+seen-finished state group (Refused s refusal) g t h e f = absurd (t e)
 
-seen-closed : (state : List ℕ) (a : WriteAnswer) (g : List ℕ) → Tells a → SoundAfter a → getD (told a) 0 0 ≡ 0 → outcomeSeen (written state (done a g)) ≡ 1 →
-    Step (done a g) (closedSeen (written state (done a g))) (written state (done a g))
-unfolding told stateOf
-seen-closed state (Finished s) g t h e f =
+seen-closed : (state group : List ℕ) (a : WriteAnswer) (g : List ℕ) → Tells a → SoundAfter a → refusalTold (told a) ≡ 0 → outcomeSeen (own (done a g) state group) ≡ 1 →
+    Step (done a g) (closedSeen (own (done a g) state group)) (own (done a g) state group)
+unfolding stateOf
+seen-closed state group (Finished s) g t h e f =
     let none = field-of-bytes (0 ∷ 0 ∷ 0 ∷ 0 ∷ 0 ∷ 0 ∷ []) 2 (omega arith) (omega arith) in
     let z : _≡_ {A = ℕ} 0 1 = sym none ∙ f in
     absurd (omega arith)
-seen-closed state (Closed s number entries taken) g t h e f =
+seen-closed state group (Closed s number entries taken) g t h e f =
     let ns : List ℕ = 0 ∷ 0 ∷ 1 ∷ number ∷ entries ∷ taken ∷ [] in
     let a = field-of-bytes ns 3 (omega arith) (t .0) in
     let b = field-of-bytes ns 4 (omega arith) (t .1 .0) in
     let c = field-of-bytes ns 5 (omega arith) (t .1 .1) in
     record { answer = rw (back s (h e), a, b, c) refl; sound = sound-back s (h e); bytes = bytes-back s (h e); lent = refl }
-seen-closed state (Refused s number) g t h e f = absurd (t e)
+seen-closed state group (Refused s refusal) g t h e f = absurd (t e)
 
-step-finished : {d : Done} {state group answer : List ℕ} {o : Outcome} → Tells (d .answer) → SoundAfter (d .answer) → Way d state group answer o →
-    o .number ≡ 0 → outcomeSeen o ≡ 0 → Step d (finishedSeen o) o
+step-finished : {d : Done} {state group answer : List ℕ} {o : Left} → Tells (d .answer) → SoundAfter (d .answer) → Way d state group answer o →
+    o .refusal ≡ 0 → outcomeSeen o ≡ 0 → Step d (finishedSeen o) o
 step-finished t h turned-away e f = absurd (omega arith)
-step-finished {d} {state} t h made e f = seen-finished state (d .answer) (d .group) t h e f
+step-finished {d} {state} {group} t h made e f = seen-finished state group (d .answer) (d .group) t h e f
 
-step-closed : {d : Done} {state group answer : List ℕ} {o : Outcome} → Tells (d .answer) → SoundAfter (d .answer) → Way d state group answer o →
-    o .number ≡ 0 → outcomeSeen o ≡ 1 → Step d (closedSeen o) o
+step-closed : {d : Done} {state group answer : List ℕ} {o : Left} → Tells (d .answer) → SoundAfter (d .answer) → Way d state group answer o →
+    o .refusal ≡ 0 → outcomeSeen o ≡ 1 → Step d (closedSeen o) o
 step-closed t h turned-away e f = absurd (omega arith)
-step-closed {d} {state} t h made e f = seen-closed state (d .answer) (d .group) t h e f
+step-closed {d} {state} {group} t h made e f = seen-closed state group (d .answer) (d .group) t h e f
 
 -- A start that returned 0 left the bytes of the state that the writer starts with.
-record Begun (size first : ℕ) (o : Outcome) : Type 0 where
-  starts : writerStartCall size first ≡ start.Started (writerOf (o .state))
-  sound : writerSound (writerOf (o .state)) ≡ true
-  bytes : inBytes (writerNumbers (writerOf (o .state))) ≡ o .state
+record BegunAt (size first : ℕ) (state : List ℕ) : Type 0 where
+  starts : writerStartCall size first ≡ start.Started (writerOf state)
+  sound : writerSound (writerOf state) ≡ true
+  bytes : inBytes (writerNumbers (writerOf state)) ≡ state
 
-begun-start : (size first : ℕ) (state : List ℕ) (a : WriterStart) → writerStartCall size first ≡ a → TellsStart a → getD (startTold a) 0 0 ≡ 0 →
-    Begun size first (answered (startTold a) (writerStarted a state) [])
-unfolding startTold
+abbrev Begun : (size first : ℕ) → Left → Type 0
+Begun size first o = BegunAt size first (writerLeft o)
+
+begun-start : (size first : ℕ) (state : List ℕ) (a : WriterStart) → writerStartCall size first ≡ a → TellsStart a → refusalTold (startTold a) ≡ 0 →
+    BegunAt size first (ifAccepted (startTold a) (writerBytes (freshState size first)) state)
 begun-start size first state (start.Started s) is t e =
-    let h = sound-start size first s is in
-    record { starts = is ∙ ap start.Started (sym (back s h)); sound = sound-back s h; bytes = bytes-back s h }
-begun-start size first state (start.Refused number) is t e = absurd (t e)
+    let same = started-fresh size first s is in
+    let h : writerSound (freshState size first) ≡ true = ap writerSound (sym same) ∙ sound-start size first s is in
+    record {
+      starts = is ∙ ap start.Started (same ∙ sym (back (freshState size first) h));
+      sound = sound-back (freshState size first) h;
+      bytes = bytes-back (freshState size first) h;
+    }
+begun-start size first state (start.Refused refusal) is t e = absurd (t e)
 
-begun : (size first : ℕ) (state answer : List ℕ) → ddsWriterStart size first state answer .number ≡ 0 → Begun size first (ddsWriterStart size first state answer)
-unfolding ddsWriterStart ofLengths
-begun size first state answer = by (lengthsKept (length state) writerLength (length answer))
-  where
-    done : Outcome
-    done = answered (startTold (writerStartCall size first)) (writerStarted (writerStartCall size first) state) []
+begun : (size first : ℕ) (state answer : List ℕ) → ddsWriterStart size first state answer .refusal ≡ 0 → Begun size first (ddsWriterStart size first state answer)
+unfolding ddsWriterStart
+begun size first state answer zero =
+    let l = leaves _ _ _ answer refl (let-through _ _ _ _ answer refl zero) in
+    subst (λ (s : List ℕ). BegunAt size first s) (sym (l .slices 0))
+    (begun-start size first state (writerStartCall size first) refl (start-tells size first) (sym (l .returns) ∙ zero))
 
-    by : (p : Bool) → cond p done (outcome 1 state [] answer) .number ≡ 0 → Begun size first (cond p done (outcome 1 state [] answer))
-    by true e = begun-start size first state (writerStartCall size first) refl (start-tells size first) e
-    by false e = absurd (omega arith)
-
-begun-at : (size first : ℕ) (state answer : List ℕ) {o : Outcome} → ddsWriterStart size first state answer ≡ o → o .number ≡ 0 → Begun size first o
+begun-at : (size first : ℕ) (state answer : List ℕ) {o : Left} → ddsWriterStart size first state answer ≡ o → o .refusal ≡ 0 → Begun size first o
 begun-at size first state answer e n =
-    subst (λ (o : Outcome). Begun size first o) e (begun size first state answer (ap (λ (o : Outcome). o .number) e ∙ n))
+    subst (λ (o : Left). Begun size first o) e (begun size first state answer (ap (λ (o : Left). o .refusal) e ∙ n))
 
 -- The phase that C sees is the phase of the state that the slice holds.
 phase-held : (state : List ℕ) → writerOf state .phase ≡ phaseSeen state
@@ -170,46 +183,46 @@ module _ {size first : ℕ} {state group : List ℕ} {run : List Image} {closed 
   held-meant : writerMeant state ≡ true
   held-meant = ap writerMeant (sym (x .bytes)) ∙ encoded-meant (writerOf state)
 
-  held-way : (c : Call) (answer : List ℕ) {o : Outcome} → callC c state group answer ≡ o → Way (call c (desk (writerOf state) group)) state group answer o
-  held-way c answer e = subst (λ (o : Outcome). Way (call c (desk (writerOf state) group)) state group answer o) e (way c state group answer held-long held-meant)
+  held-way : (c : Call) (answer : List ℕ) {o : Left} → callC c state group answer ≡ o → Way (call c (desk (writerOf state) group)) state group answer o
+  held-way c answer e = subst (λ (o : Left). Way (call c (desk (writerOf state) group)) state group answer o) e (way c state group answer held-long held-meant)
 
   held-asked : (c : Call) → AsAsked c (phaseSeen state) now → AsAsked c (writerOf state .phase) now
   held-asked c q = subst (λ (p : Phase). AsAsked c p now) (sym (phase-held state)) q
 
-  written-on : (c : Call) {o : Outcome} → AsAsked c (phaseSeen state) now → Step (call c (desk (writerOf state) group)) (finishedSeen o) o →
-      Written size first (o .state) (o .lent) run closed (noted c (phaseSeen state) (finishedSeen o) now)
+  written-on : (c : Call) {o : Left} → AsAsked c (phaseSeen state) now → Step (call c (desk (writerOf state) group)) (finishedSeen o) o →
+      Written size first (writerLeft o) (groupLeft o) run closed (noted c (phaseSeen state) (finishedSeen o) now)
   written-on c {o} q s =
       let y = Wrote.goes-on c (x .wrote) (held-asked c q) (s .answer) in
-      let z = subst (λ (g : List ℕ). Wrote size first (desk (writerOf (o .state)) g) run closed (noted c (writerOf state .phase) (finishedSeen o) now)) (s .lent) y in
+      let z = subst (λ (g : List ℕ). Wrote size first (desk (writerOf (writerLeft o)) g) run closed (noted c (writerOf state .phase) (finishedSeen o) now)) (s .lent) y in
       record {
-        wrote = subst (λ (p : Phase). Wrote size first (desk (writerOf (o .state)) (o .lent)) run closed (noted c p (finishedSeen o) now)) (phase-held state) z;
+        wrote = subst (λ (p : Phase). Wrote size first (desk (writerOf (writerLeft o)) (groupLeft o)) run closed (noted c p (finishedSeen o) now)) (phase-held state) z;
         sound = s .sound;
         bytes = s .bytes;
       }
 
-  written-closed : (c : Call) (information buffer : List ℕ) {o : Outcome} → AsAsked c (phaseSeen state) now → Step (call c (desk (writerOf state) group)) (closedSeen o) o →
+  written-closed : (c : Call) (information buffer : List ℕ) {o : Left} → AsAsked c (phaseSeen state) now → Step (call c (desk (writerOf state) group)) (closedSeen o) o →
       length information ≡ informationLength → length buffer ≡ size →
-      Written size first (o .state) buffer (run ++ (imageOf (numberSeen o) (entriesSeen o) (o .lent) information ∷ []))
+      Written size first (writerLeft o) buffer (run ++ (imageOf (numberSeen o) (entriesSeen o) (groupLeft o) information ∷ []))
       (noted c (phaseSeen state) (closedSeen o) now) (noted c (phaseSeen state) (closedSeen o) now)
   written-closed c information buffer {o} q s i j =
       let y = Wrote.closes c information buffer (x .wrote) (held-asked c q) (s .answer) i j in
       let a : Phase → Account = λ p. noted c p (closedSeen o) now in
-      let z = subst (λ (g : List ℕ). Wrote size first (desk (writerOf (o .state)) buffer) (run ++ (imageOf (numberSeen o) (entriesSeen o) g information ∷ [])) (a (writerOf state .phase)) (a (writerOf state .phase))) (s .lent) y in
+      let z = subst (λ (g : List ℕ). Wrote size first (desk (writerOf (writerLeft o)) buffer) (run ++ (imageOf (numberSeen o) (entriesSeen o) g information ∷ [])) (a (writerOf state .phase)) (a (writerOf state .phase))) (s .lent) y in
       record {
-        wrote = subst (λ (p : Phase). Wrote size first (desk (writerOf (o .state)) buffer) (run ++ (imageOf (numberSeen o) (entriesSeen o) (o .lent) information ∷ [])) (a p) (a p)) (phase-held state) z;
+        wrote = subst (λ (p : Phase). Wrote size first (desk (writerOf (writerLeft o)) buffer) (run ++ (imageOf (numberSeen o) (entriesSeen o) (groupLeft o) information ∷ [])) (a p) (a p)) (phase-held state) z;
         sound = s .sound;
         bytes = s .bytes;
       }
 
   -- A call that returned another number than 0 left state and group as they were, and the writer's own call, if it was made, refused.
-  written-refused : (c : Call) (answer : List ℕ) {o : Outcome} → Way (call c (desk (writerOf state) group)) state group answer o → (o .number ≡ 0 → ⊥) →
-      Written size first (o .state) (o .lent) run closed now
+  written-refused : (c : Call) (answer : List ℕ) {o : Left} → Way (call c (desk (writerOf state) group)) state group answer o → (o .refusal ≡ 0 → ⊥) →
+      Written size first (writerLeft o) (groupLeft o) run closed now
   written-refused c answer turned-away n = x
   written-refused c answer made n =
       let w = desk (writerOf state) group in
       let r = refusal-told c w in
       let same : call c w ≡ done (Refused (w .state) (refusalOf c w)) (w .group) = refused-stays c w (λ e. n (r ∙ e)) in
-      subst (λ (d : Done). Written size first (written state d .state) (written state d .lent) run closed now) (sym same) x
+      subst (λ (d : Done). Written size first (writerLeft (own d state group)) (groupLeft (own d state group)) run closed now) (sym same) x
 
 -- The whole of a writing.
 pub written-through : {size first : ℕ} {state group : List ℕ} {run : List Image} {closed now : Account} → WroteC size first state group run closed now →

@@ -5,14 +5,14 @@ use mathlib.Core.List.{List}
 use mathlib.Core.Bool.{true}
 use mathlib.Core.Path.{_≡_}
 use Rattle.numbers.specs.Numbers.{inBytes}
-use Rattle.laying.specs.State.{writerSound}
+use Rattle.sound.specs.State.{writerSound}
 use Rattle.laying.specs.Laying.{desk}
 use Rattle.layout.specs.Layout.{Image}
 use Rattle.layout.specs.Reading.{itemsRead, begunRead}
 use Rattle.layout.specs.Stated.{EndsWith}
 use Rattle.layout.specs.Writing.{Account, Wrote}
-use Rattle.slices.specs.Slices.{readerOf, writerOf, writerNumbers}
-use Rattle.c_reader.specs.Calls.{ddsReaderStart}
+use Rattle.states.specs.States.{readerOf, writerOf, writerNumbers}
+use Rattle.c_reader.specs.Calls.{ddsReaderStart, readerLeft}
 use Rattle.trip.specs.ThroughC.{Loan, AcceptsC}
 
 -- The state slice is the bytes of a sound state, and with that state the writer's own calls wrote the same.
@@ -25,10 +25,10 @@ pub record Written (size first : ℕ) (state group : List ℕ) (run : List Image
 -- these slices; and the numbers of the rows that the reads leave give back an account: the items finished, and the bytes so far
 -- of the record that is not, with which the last state slice ends.
 pub record GivesBackC (size first : ℕ) (state answer : List ℕ) (run : List Image) (loans : List Loan) (a : Account) : Type 0 where
-  pub starts : ddsReaderStart size first state answer .number ≡ 0
+  pub starts : ddsReaderStart size first state answer .refusal ≡ 0
   pub rows : List (List ℕ)
   pub final : List ℕ
-  pub accepts : AcceptsC (ddsReaderStart size first state answer .state) run loans rows final
+  pub accepts : AcceptsC (readerLeft (ddsReaderStart size first state answer)) run loans rows final
   pub items : itemsRead run rows ≡ a .finished
   pub begun : begunRead run rows ≡ a .begun
   pub ends : EndsWith (a .begun) (readerOf final)

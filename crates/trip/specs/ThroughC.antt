@@ -8,17 +8,19 @@ use lib.ListN.{length}
 use Rattle.group.specs.declared.Phase.{Phase}
 use Rattle.group.specs.Sizes.{informationLength}
 use Rattle.numbers.specs.Numbers.{numberAt, numbersIn, field}
-use Rattle.laying.specs.declared.WriteAnswer.{WriteAnswer}
-use Rattle.laying.specs.declared.WriteAnswer.the-variants.{Finished, Closed}
-use Rattle.laying.specs.Calls.{Call}
-use Rattle.laying.specs.Calls.Call.{aRecord, aSeparator, anEnd}
+use Rattle.writer.specs.declared.WriteAnswer.{WriteAnswer}
+use Rattle.writer.specs.declared.WriteAnswer.the-variants.{Finished, Closed}
+use Rattle.writer.specs.Calls.{Call}
+use Rattle.writer.specs.Calls.Call.{aRecord, aSeparator, anEnd}
 use Rattle.layout.specs.Layout.{Image}
 use Rattle.layout.specs.Writing.{Account, blank, noted, AsAsked, imageOf}
-use Rattle.slices.specs.Slices.{answerLength, phaseOf, b4Number, writerOf}
-use Rattle.c_reader.specs.Calls.{Outcome, ddsRead, ddsWriterStart, ddsRecord, ddsSeparator, ddsEnd}
+use Rattle.slices.specs.Call.{Left, answerLength}
+use Rattle.states.specs.States.{phaseOf, b4Number, writerOf}
+use Rattle.c_reader.specs.Calls.{ddsRead, readerLeft, rowsRead}
+use Rattle.c_writer.specs.Calls.{ddsWriterStart, ddsRecord, ddsSeparator, ddsEnd, writerLeft, groupLeft}
 
 -- A call through its slices: the state, the group and the answer. Whether it sets b4 is the number 0 or 1.
-unfoldable pub callC : Call → List ℕ → List ℕ → List ℕ → Outcome
+unfoldable pub callC : Call → List ℕ → List ℕ → List ℕ → Left
 callC (aRecord bytes warn) state group answer = ddsRecord state group bytes (b4Number warn) answer
 callC (aSeparator value warn) state group answer = ddsSeparator state group value (b4Number warn) answer
 callC (anEnd warn) state group answer = ddsEnd state group (b4Number warn) answer
@@ -28,49 +30,49 @@ abbrev pub phaseSeen : List ℕ → Phase
 phaseSeen state = phaseOf (field state 2)
 
 -- The outcome in the answer slice: 0 where the call finished its work, 1 where it closed the group.
-abbrev pub outcomeSeen : Outcome → ℕ
+abbrev pub outcomeSeen : Left → ℕ
 outcomeSeen o = numberAt 4 (o .answer) 8
 
 -- The closed group's number in the answer slice.
-abbrev pub numberSeen : Outcome → ℕ
+abbrev pub numberSeen : Left → ℕ
 numberSeen o = numberAt 4 (o .answer) 12
 
 -- The closed group's entry count in the answer slice.
-abbrev pub entriesSeen : Outcome → ℕ
+abbrev pub entriesSeen : Left → ℕ
 entriesSeen o = numberAt 4 (o .answer) 16
 
 -- The bytes taken, in the answer slice.
-abbrev pub takenSeen : Outcome → ℕ
+abbrev pub takenSeen : Left → ℕ
 takenSeen o = numberAt 4 (o .answer) 20
 
 -- A call that finished its work, as C sees it.
-abbrev pub finishedSeen : Outcome → WriteAnswer
-finishedSeen o = Finished (writerOf (o .state))
+abbrev pub finishedSeen : Left → WriteAnswer
+finishedSeen o = Finished (writerOf (writerLeft o))
 
 -- A call that closed the group, as C sees it.
-abbrev pub closedSeen : Outcome → WriteAnswer
-closedSeen o = Closed (writerOf (o .state)) (numberSeen o) (entriesSeen o) (takenSeen o)
+abbrev pub closedSeen : Left → WriteAnswer
+closedSeen o = Closed (writerOf (writerLeft o)) (numberSeen o) (entriesSeen o) (takenSeen o)
 
 -- A writing from C: the state slice and the group as they are now, the run closed so far, the account at the last close, and
 -- the account now. The state slice at the start and every answer slice may be any: one of another length than its own is
 -- refused. A call that returned a number other than 0 leaves the account as it was. After a close the next call may come with
 -- any buffer of the right length.
 pub data WroteC (size first : ℕ) : List ℕ → List ℕ → List Image → Account → Account → Type 0 where
-  begins : {o : Outcome} (state answer group : List ℕ) → ddsWriterStart size first state answer ≡ o → o .number ≡ 0 → length group ≡ size →
-      WroteC size first (o .state) group [] blank blank
-  goes-on : {state group : List ℕ} {run : List Image} {closed now : Account} {o : Outcome} (c : Call) (answer : List ℕ) →
+  begins : {o : Left} (state answer group : List ℕ) → ddsWriterStart size first state answer ≡ o → o .refusal ≡ 0 → length group ≡ size →
+      WroteC size first (writerLeft o) group [] blank blank
+  goes-on : {state group : List ℕ} {run : List Image} {closed now : Account} {o : Left} (c : Call) (answer : List ℕ) →
       WroteC size first state group run closed now → AsAsked c (phaseSeen state) now →
-      callC c state group answer ≡ o → o .number ≡ 0 → outcomeSeen o ≡ 0 →
-      WroteC size first (o .state) (o .lent) run closed (noted c (phaseSeen state) (finishedSeen o) now)
-  closes : {state group : List ℕ} {run : List Image} {closed now : Account} {o : Outcome} (c : Call) (answer information buffer : List ℕ) →
+      callC c state group answer ≡ o → o .refusal ≡ 0 → outcomeSeen o ≡ 0 →
+      WroteC size first (writerLeft o) (groupLeft o) run closed (noted c (phaseSeen state) (finishedSeen o) now)
+  closes : {state group : List ℕ} {run : List Image} {closed now : Account} {o : Left} (c : Call) (answer information buffer : List ℕ) →
       WroteC size first state group run closed now → AsAsked c (phaseSeen state) now →
-      callC c state group answer ≡ o → o .number ≡ 0 → outcomeSeen o ≡ 1 →
+      callC c state group answer ≡ o → o .refusal ≡ 0 → outcomeSeen o ≡ 1 →
       length information ≡ informationLength → length buffer ≡ size →
-      WroteC size first (o .state) buffer (run ++ (imageOf (numberSeen o) (entriesSeen o) (o .lent) information ∷ []))
+      WroteC size first (writerLeft o) buffer (run ++ (imageOf (numberSeen o) (entriesSeen o) (groupLeft o) information ∷ []))
       (noted c (phaseSeen state) (closedSeen o) now) (noted c (phaseSeen state) (closedSeen o) now)
-  refused : {state group : List ℕ} {run : List Image} {closed now : Account} {o : Outcome} (c : Call) (answer : List ℕ) →
+  refused : {state group : List ℕ} {run : List Image} {closed now : Account} {o : Left} (c : Call) (answer : List ℕ) →
       WroteC size first state group run closed now →
-      callC c state group answer ≡ o → (o .number ≡ 0 → ⊥) → WroteC size first (o .state) (o .lent) run closed now
+      callC c state group answer ≡ o → (o .refusal ≡ 0 → ⊥) → WroteC size first (writerLeft o) (groupLeft o) run closed now
 
 -- What a read is lent besides the group: a slice for its rows and one for its answer.
 pub record Loan : Type 0 where
@@ -87,7 +89,7 @@ pub data LentC : List Image → List Loan → Type 0 where
 -- whose numbers are listed.
 pub data AcceptsC : List ℕ → List Image → List Loan → List (List ℕ) → List ℕ → Type 0 where
   accepts-none : {state : List ℕ} → AcceptsC state [] [] [] state
-  accepts-more : {state final : List ℕ} {g : Image} {gs : List Image} {loan : Loan} {loans : List Loan} {rows : List (List ℕ)} {o : Outcome} →
-      ddsRead state (g .bytes) (g .number) (g .entries) (loan .rows) (loan .answer) ≡ o → o .number ≡ 0 →
-      AcceptsC (o .state) gs loans rows final →
-      AcceptsC state (g ∷ gs) (loan ∷ loans) (numbersIn (o .lent) ∷ rows) final
+  accepts-more : {state final : List ℕ} {g : Image} {gs : List Image} {loan : Loan} {loans : List Loan} {rows : List (List ℕ)} {o : Left} →
+      ddsRead state (g .bytes) (g .number) (g .entries) (loan .rows) (loan .answer) ≡ o → o .refusal ≡ 0 →
+      AcceptsC (readerLeft o) gs loans rows final →
+      AcceptsC state (g ∷ gs) (loan ∷ loans) (numbersIn (rowsRead o) ∷ rows) final

@@ -10,7 +10,7 @@ use lib.Seq.{length-take-le}
 use Rattle.numbers.specs.Store.{put}
 use Rattle.numbers.proofs.Tests.{within, is-within}
 use Rattle.numbers.proofs.Stores.{length-put, drop-put}
-use Rattle.answer.specs.Answer.{refusalTold}
+use Rattle.answer.specs.Answer.{refusalTold, ifAccepted}
 use Rattle.group.specs.declared.Kind.{Kind}
 use Rattle.group.specs.declared.Kind.the-variants.{Total, Separator, Middle, Start, Last, Entire, Skip}
 use Rattle.group.specs.declared.Phase.{Phase}
@@ -178,6 +178,7 @@ continued-ready {s} {g} {n} warn o e =
 -- What an accepted call leaves.
 pub record Left (g : List ℕ) (d : Done) : Type 0 where
   pub accepted : refusalTold (told (d .answer)) ≡ 0
+  pub given : (new old : List ℕ) → new ≡ ifAccepted (told (d .answer)) new old
   pub sound : Sound (stateOf (d .answer))
   pub stays : Stays g (d .group)
 
@@ -186,6 +187,7 @@ unfolding finished stateOf
 left-finished w t c e =
     record {
       accepted = refl;
+      given = λ new old. refl;
       sound =
           record {
             run = record { least = t .low; most = t .high; some = t .some; number = omega arith; kept = c .carried .kept };
@@ -210,6 +212,7 @@ left-closed taken w t c =
     let zeros : length (replicate {A = ℕ} gap 0) ≡ gap = length-replicate gap 0 in
     record {
       accepted = refl;
+      given = λ new old. refl;
       sound =
           record {
             run = record { least = t .low; most = t .high; some = omega arith; number = omega arith; kept = c .kept };
@@ -256,7 +259,12 @@ left-separator {value} {g} {w} t c (not-laid h) = left-closed 0 w t (c .carried)
 
 left-same : {s : Writer} {g : List ℕ} → Ended s g → Left g (finished (desk s g))
 unfolding finished stateOf
-left-same {s} {g} a = record { accepted = refl; sound = a .sound; stays = stays-same g }
+left-same {s} {g} a = record {
+  accepted = refl;
+  given = λ new old. refl;
+  sound = a .sound;
+  stays = stays-same g;
+}
 
 -- The three calls.
 pub record-left : {s : Writer} {g : List ℕ} (bytes : List ℕ) (warn : Bool) → Offered s g (length bytes)

@@ -10,7 +10,7 @@ use lib.ListN.{length, drop}
 use lib.Signed.{leZ}
 use borrow.Author.Tests.{eqb-true, eqb-false}
 use Rattle.numbers.proofs.Tests.{within}
-use Rattle.answer.specs.Answer.{refusalTold}
+use Rattle.answer.specs.Answer.{refusalTold, ifAccepted}
 use Rattle.group.specs.Sizes.{leastSize, standardSize, informationLength, lastNumber}
 use Rattle.group.specs.State.{startRefusal}
 use Rattle.group.proofs.StateLaws.{started}
@@ -60,6 +60,14 @@ refused-stays c w n = by (outcome c w)
     by : {d : Done} → Outcome (refusalOf c w) w d → d ≡ done (Refused (w .state) (refusalOf c w)) (w .group)
     by (refused h) = refl
     by (accepted e l) = absurd (n e)
+
+-- .. so the group that a call leaves is a new one only where it is accepted.
+pub group-left : (c : Call) (w : Desk) → call c w .group ≡ ifAccepted (told (call c w .answer)) (call c w .group) (w .group)
+group-left c w = by (outcome c w)
+  where
+    by : {d : Done} → Outcome (refusalOf c w) w d → d .group ≡ ifAccepted (told (d .answer)) (d .group) (w .group)
+    by (refused h) = refl
+    by {d} (accepted e l) = l .given (d .group) (w .group)
 
 stays : (c : Call) (w : Desk) → Stays (w .group) (call c w .group)
 stays c w = by (outcome c w)

@@ -10,11 +10,12 @@ unfolding endLine
 add-end-spec =
     tie.close
     (tie.spec
-    (λ c. search needs)
     (λ c κs. search needs)
     (λ c κs. search needs)
     (λ c κs. search needs)
     (λ c. search needs)
-    (λ c κs. search needs)
-    (λ c. search needs)
-    (λ c. added-then (c .before .before .before .before .before .before .before .before .before .before .before .before .before .before .before .add .ensures) (added-then (c .before .before .before .before .before .before .before .before .before .before .before .add-phase .ensures) (added-then (c .before .before .before .before .before .before .before .add-field .ensures) (c .before .before .add2 .ensures)))))
+    (λ c.
+    let three = c .before .before in
+    let two = three .before .before .before .before in
+    let one = two .before .before .before .before in
+    added-then (one .add-ending .ensures) (added-then (two .add-field .ensures) (three .add-byte .ensures))))

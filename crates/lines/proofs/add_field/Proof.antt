@@ -10,8 +10,10 @@ unfolding field
 add-field-spec =
     tie.close
     (tie.spec
-    (λ c. search needs)
     (λ c κs. search needs)
     (λ c κs. search needs)
     (λ c. search needs)
-    (λ c. added-then (c .before .before .before .before .before .before .add .ensures) (c .before .before .add-number .ensures)))
+    (λ c.
+    let two = c .before .before in
+    let one = two .before .before .before .before in
+    added-then (one .add-byte .ensures) (two .add-number .ensures)))

@@ -13,7 +13,11 @@ add-row-spec =
     (λ c κs. search needs)
     (λ c κs. search needs)
     (λ c κs. search needs)
-    (λ c. search needs)
     (λ c κs. search needs)
     (λ c. search needs)
-    (λ c. added-then (c .before .before .before .before .before .before .before .before .before .before .before .before .before .before .before .add-kind .ensures) (added-then (c .before .before .before .before .before .before .before .before .before .before .before .add-field .ensures) (added-then (c .before .before .before .before .before .before .before .add-field2 .ensures) (c .before .before .add .ensures)))))
+    (λ c.
+    let four = c .before .before in
+    let three = four .before .before .before .before in
+    let two = three .before .before .before .before in
+    let one = two .before .before .before .before in
+    added-then (one .add-kind .ensures) (added-then (two .add-field .ensures) (added-then (three .add-field2 .ensures) (four .add-byte .ensures)))))

@@ -9,7 +9,7 @@ list-run-requires : tie.Need-list-run-requires
 list-run-requires c κs =
     let read = c .before .before .before .before .before .read-sections in
     let found = within-found _ _ _ _ (read .ensures) (c .before .before .size .given .1) in
-    (found .range .0, (found .range .1 .0, omega (arith, found .range .1 .1, read .kept .0)))
+    (found .range, omega (arith, found .range .1 .1, read .kept .0))
 
 pub main-spec : {M : Type 1} → statement M
 main-spec =

@@ -11,9 +11,10 @@ use Rattle.entry.specs.declared.Cursor.{Cursor}
 use Rattle.entry.specs.declared.ScanEnd.{ScanEnd}
 use Rattle.entry.specs.declared.ScanEnd.the-variants.{Reached}
 use Rattle.entry.specs.Scan.{scan, after, onward}
-use Rattle.entry.specs.Bounds.{Bounded, scanLeft, movedTo}
+use Rattle.entry.specs.Bounds.{Bounded}
 use Rattle.entry.proofs.Faults.{stays}
-use Rattle.entry.proofs.Scans.{left-turn, all-left, none-left, stops, goes-on}
+use Rattle.scan.specs.Stretch.{scanLeft, movedTo}
+use Rattle.scan.proofs.Turns.{left-turn, all-left, none-left, stops, goes-on}
 use Rattle.scan.proofs.scan_entries.Statement.{statement}
 use Rattle.scan.proofs.scan_entries.Tie as tie
 
@@ -60,8 +61,7 @@ loop-again c =
 refused : tie.Need-returns-2 Inv-loop μ-loop
 refused c =
     let p = c .before .before .before .before .before .before .before .before in
-    let place : p .before .before .before .args .entries - (p .pass .result .left - 1) ≡ p .before .before .before .args .entries + 1 - p .pass .result .left = omega (arith, p .pass .ensures .0, p .before .loop .inv .most) in
-    from (c .before) _ (rw place (stops _ _ _ _ (c .if2 .taken)))
+    from (c .before) _ (stops _ _ _ _ _ (omega (arith, p .pass .ensures .0, p .before .loop .inv .most)) (c .if2 .taken))
 
 ends : tie.Need-returns-3 Inv-loop μ-loop
 ends c =

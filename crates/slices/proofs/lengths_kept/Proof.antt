@@ -1,6 +1,6 @@
 -- `lengths_kept` meets its contract: both tests. Assumes nothing.
 use Rattle.numbers.proofs.Tests.{tests}
-use Rattle.slices.specs.Slices.{lengthsKept}
+use Rattle.slices.specs.Call.{lengthsKept}
 use Rattle.slices.proofs.lengths_kept.Statement.{statement}
 use Rattle.slices.proofs.lengths_kept.Tie as tie
 

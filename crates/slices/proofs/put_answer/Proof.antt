@@ -1,6 +1,5 @@
 -- `put_answer` meets its contract: six numbers, one after another. Assumes nothing.
 use borrow.Author.Needs.{needs}
-use mathlib.Core.Path.{refl}
 use mathlib.Core.List.{[], _∷_}
 use Rattle.numbers.proofs.InBytes.{puts-whole}
 use Rattle.slices.proofs.put_answer.Statement.{statement}
@@ -15,7 +14,7 @@ returns c =
     let c2 = c3 .before .before .before .before in
     let c1 = c2 .before .before .before .before in
     let s = c1 .before .before .before in
-    (refl, rw (c6 .put-number6 .ensures, c5 .put-number5 .ensures, c4 .put-number4 .ensures, c3 .put-number3 .ensures, c2 .put-number2 .ensures, c1 .put-number .ensures) (puts-whole (s .args .slice .now) (s .args .refusal ∷ s .args .place ∷ s .args .outcome ∷ s .args .number ∷ s .args .entries ∷ s .args .taken ∷ []) (s .pre)))
+    rw (c6 .put-number6 .ensures, c5 .put-number5 .ensures, c4 .put-number4 .ensures, c3 .put-number3 .ensures, c2 .put-number2 .ensures, c1 .put-number .ensures) (puts-whole (s .args .answer .now) (s .args .refusal ∷ s .args .place ∷ s .args .outcome ∷ s .args .number ∷ s .args .entries ∷ s .args .taken ∷ []) (s .pre))
 
 pub put-answer-spec : {M : Type 1} → statement M
 put-answer-spec =

@@ -1,6 +1,7 @@
 -- `count_fault` meets its contract, kind by kind. Assumes nothing.
 use borrow.Author.Needs.{needs}
-use borrow.Author.Tests.{eq-eqb, ne-eqb, le-leb, lt-leb}
+use borrow.Author.Tests.{le-leb, lt-leb}
+use Rattle.entry.proofs.Faults.{total-kept, total-differs}
 use Rattle.entry.proofs.rules.count_fault.Statement.{statement}
 use Rattle.entry.proofs.rules.count_fault.Tie as tie
 
@@ -9,7 +10,7 @@ count-fault-spec =
     tie.close
     (tie.spec
     (λ c. search needs)
-    (λ c. rw (c .before .enum-told .given .1, eq-eqb _ _ (c .if1 .taken)))
+    (λ c. rw (c .before .enum-told .given .1) (total-kept _ _ (c .if1 .taken)))
     (λ c. search needs)
     (λ c. rw (c .before .enum-told2 .given .1, le-leb _ _ (c .if2 .taken)))
     (λ c. search needs)
@@ -25,7 +26,7 @@ count-fault-spec =
     (λ c. search needs)
     (λ c κs. search needs)
     (λ c. search needs)
-    (λ c. rw (c .before .enum-told .given .1, ne-eqb _ _ (c .if1 .left)))
+    (λ c. rw (c .before .enum-told .given .1) (total-differs _ _ (c .if1 .left)))
     (λ c. rw (c .before .enum-told2 .given .1, lt-leb _ _ (c .if2 .left)))
     (λ c. rw (c .before .enum-told3 .given .1) (c .part-fault .ensures))
     (λ c. rw (c .before .enum-told4 .given .1) (c .part-fault2 .ensures))

@@ -17,7 +17,8 @@ returns : tie.Need-returns
 unfolding groupRows
 returns c =
     let f = c .before .before in
-    (f .before .before .before .before .before .judge-in .ensures, rw (f .before .before .before .enum-told .given .1) (f .fill .ensures))
+    let t = f .before .before .before in
+    record { answer = t .before .before .judge-in .ensures; rows-left = rw (t .enum-told .given .1) (f .fill .ensures) }
 
 pub read-spec : {M : Type 1} → statement M
 read-spec =
@@ -30,4 +31,4 @@ read-spec =
     (λ c. search needs)
     (λ c. search needs)
     returns
-    (λ c. (c .before .before .judge-in .ensures, rw (c .enum-told2 .given .1))))
+    (λ c. record { answer = c .before .before .judge-in .ensures; rows-left = rw (c .enum-told2 .given .1) }))

@@ -25,7 +25,7 @@ unfolding groupRows
 returns c =
     let f = c .before .before in
     let t = f .before .before .before in
-    (t .before .before .judge-in .ensures, rw (t .enum-told .given .1, ← open-to t .long) (f .fill-bytes .ensures))
+    record { answer = t .before .before .judge-in .ensures; rows-left = rw (t .enum-told .given .1, ← open-to t .long) (f .fill-bytes .ensures) }
 
 pub read-bytes-spec : {M : Type 1} → statement M
 read-bytes-spec =
@@ -39,4 +39,4 @@ read-bytes-spec =
     (λ c. search needs)
     (λ c. search needs)
     returns
-    (λ c. (c .before .before .judge-in .ensures, rw (c .enum-told2 .given .1))))
+    (λ c. record { answer = c .before .before .judge-in .ensures; rows-left = rw (c .enum-told2 .given .1) }))

@@ -8,7 +8,7 @@ use Rattle.numbers.proofs.InBytes.{put-more}
 use Rattle.numbers.specs.Numbers.{inBytes}
 use Rattle.group.specs.Sizes.{entryOffset}
 use Rattle.numbers.specs.Store.{put}
-use Rattle.entry.proofs.Filling.{Filled, filled-turn, filled-reach, filled-done}
+use Rattle.reader.proofs.Filling.{Filled, filled-turn, filled-reach, filled-done}
 use Rattle.reader.proofs.row_bytes.fill_bytes.Statement.{statement}
 use Rattle.reader.proofs.row_bytes.fill_bytes.Tie as tie
 

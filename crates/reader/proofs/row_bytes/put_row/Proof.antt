@@ -10,8 +10,9 @@ use Rattle.numbers.specs.Numbers.{inBytes}
 use Rattle.numbers.specs.Store.{put}
 use Rattle.group.specs.Entries.{entryAt}
 use Rattle.group.specs.Flags.{meaningOf}
-use Rattle.entry.specs.Scan.{rowKind, reachedBy}
-use Rattle.entry.proofs.Scans.{row-kind}
+use Rattle.entry.specs.Scan.{reachedBy}
+use Rattle.reader.specs.Rows.{rowKind}
+use Rattle.reader.proofs.Filling.{row-kind}
 use Rattle.reader.proofs.row_bytes.put_row.Statement.{statement}
 use Rattle.reader.proofs.row_bytes.put_row.Tie as tie
 

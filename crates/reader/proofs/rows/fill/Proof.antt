@@ -8,8 +8,7 @@ use Rattle.group.specs.Sizes.{entryOffset}
 use Rattle.numbers.specs.Store.{put}
 use Rattle.group.specs.Flags.{meaningOf}
 use Rattle.numbers.proofs.Stores.{put-three, put-put}
-use Rattle.entry.proofs.Scans.{row-kind}
-use Rattle.entry.proofs.Filling.{Filled, filled-turn, filled-reach, filled-done}
+use Rattle.reader.proofs.Filling.{row-kind, Filled, filled-turn, filled-reach, filled-done}
 use Rattle.reader.proofs.rows.fill.Statement.{statement}
 use Rattle.reader.proofs.rows.fill.Tie as tie
 

@@ -8,7 +8,7 @@ use native.Mathlib.Omega.{arith}
 use Rattle.group.specs.declared.Kind.the-variants.{Skip}
 use Rattle.numbers.proofs.Tests.{holds}
 use Rattle.group.proofs.FlagLaws.{flag-small}
-use Rattle.entry.proofs.Scans.{skip-turn}
+use Rattle.scan.proofs.Stretches.{skip-turn}
 use Rattle.scan.proofs.singles.ends.Statement.{statement}
 use Rattle.scan.proofs.singles.ends.Tie as tie
 

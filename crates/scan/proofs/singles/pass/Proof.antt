@@ -3,14 +3,15 @@ use borrow.Author.Needs.{needs}
 use mathlib.Core.Path.{_≡_, refl, sym, _∙_, subst}
 use mathlib.Core.Bool.{Bool}
 use mathlib.Core.List.{List}
-use Prim.Native.Nat.{ℕ, _-_, _≤_}
+use Prim.Native.Nat.{ℕ, _≤_}
 use native.Mathlib.Omega.{arith}
 use Rattle.group.specs.Sizes.{entryOffset}
 use Rattle.entry.specs.declared.Cursor.{Cursor}
 use Rattle.entry.specs.declared.Stand.{Stand}
 use Rattle.entry.specs.declared.Stand.the-variants.{Free}
-use Rattle.entry.specs.Bounds.{Bounded, scanLeft, movedTo, freeAt}
-use Rattle.entry.proofs.Scans.{free-is, single-turn}
+use Rattle.entry.specs.Bounds.{Bounded}
+use Rattle.scan.specs.Stretch.{scanLeft, movedTo, freeAt}
+use Rattle.scan.proofs.Stretches.{free-is, single-turn}
 use Rattle.scan.proofs.singles.pass.Statement.{statement}
 use Rattle.scan.proofs.singles.pass.Tie as tie
 

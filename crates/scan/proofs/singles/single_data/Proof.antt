@@ -2,7 +2,7 @@
 use borrow.Author.Needs.{needs}
 use mathlib.Core.Path.{refl}
 use native.Mathlib.Omega.{arith}
-use Rattle.entry.specs.Bounds.{separates, isEntire}
+use Rattle.scan.specs.Stretch.{separates, isEntire}
 use Rattle.scan.proofs.singles.single_data.Statement.{statement}
 use Rattle.scan.proofs.singles.single_data.Tie as tie
 

@@ -6,6 +6,7 @@ use native.Mathlib.Decide.{ℕ-discrete}
 use native.Mathlib.Omega.{arith}
 use lib.Dec.{eqb}
 use borrow.Author.Tests.{eq-eqb, ne-eqb, le-leb, lt-leb}
+use Rattle.column.specs.Column.{rowCount}
 use Rattle.third.specs.Answer.{lengthKept}
 use Rattle.third.proofs.refusals.length_kept.Statement.{statement}
 use Rattle.third.proofs.refusals.length_kept.Tie as tie
@@ -14,17 +15,17 @@ empty : (total n : ℕ) → n < 1 → false ≡ lengthKept total n
 unfolding lengthKept
 empty total n h = sym (rw (lt-leb 1 n h))
 
-uneven : (total n : ℕ) → 1 ≤ n → (total % 46 ≡ 0 → ⊥) → false ≡ lengthKept total n
+uneven : (total n : ℕ) → 1 ≤ n → (total % rowCount ≡ 0 → ⊥) → false ≡ lengthKept total n
 unfolding lengthKept
-uneven total n h d = sym (rw (le-leb 1 n h, ne-eqb total (46 * n) (λ e. d (omega arith))))
+uneven total n h d = sym (rw (le-leb 1 n h, ne-eqb total (rowCount * n) (λ e. d (omega arith))))
 
-even : (total n : ℕ) → 1 ≤ n → total % 46 ≡ 0 → eqb (total / 46) n ≡ lengthKept total n
+even : (total n : ℕ) → 1 ≤ n → total % rowCount ≡ 0 → eqb (total / rowCount) n ≡ lengthKept total n
 unfolding lengthKept
-even total n h d = go (ℕ-discrete total (46 * n)) ∙ sym (rw (le-leb 1 n h))
+even total n h d = go (ℕ-discrete total (rowCount * n)) ∙ sym (rw (le-leb 1 n h))
   where
-    go : Dec (total ≡ 46 * n) → eqb (total / 46) n ≡ eqb total (46 * n)
-    go (yes e) = eq-eqb (total / 46) n (omega arith) ∙ sym (eq-eqb total (46 * n) e)
-    go (no u) = ne-eqb (total / 46) n (λ q. u (omega arith)) ∙ sym (ne-eqb total (46 * n) u)
+    go : Dec (total ≡ rowCount * n) → eqb (total / rowCount) n ≡ eqb total (rowCount * n)
+    go (yes e) = eq-eqb (total / rowCount) n (omega arith) ∙ sym (eq-eqb total (rowCount * n) e)
+    go (no u) = ne-eqb (total / rowCount) n (λ q. u (omega arith)) ∙ sym (ne-eqb total (rowCount * n) u)
 
 returns : tie.Need-returns
 returns c = empty (c .before .args .total) (c .before .args .n) (c .if1 .taken)

@@ -2,7 +2,8 @@
 use borrow.Author.Needs.{needs}
 use mathlib.Core.Path.{sym, _∙_}
 use lib.ListN.{length}
-use Rattle.track.proofs.Judged.{MakeKept, make-kept, area-small, packs-small}
+use Rattle.header.proofs.TakenApart.{area-small}
+use Rattle.track.proofs.Judged.{MakeKept, make-kept, packs-small}
 use Rattle.track.proofs.Track.make.Statement.{statement}
 use Rattle.track.proofs.Track.make.Tie as tie
 

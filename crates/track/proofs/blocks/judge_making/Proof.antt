@@ -6,7 +6,7 @@ use Prim.Native.Nat.{_-_}
 use native.Mathlib.Omega.{arith}
 use lib.ListN.{length}
 use Rattle.numbers.proofs.Tests.{fails, holds}
-use Rattle.track.specs.Header.{areaKept}
+use Rattle.header.specs.Header.{areaKept}
 use Rattle.track.specs.Answer.{lengthsKept, packFault}
 use Rattle.track.proofs.Judged.{Judging, judged-fault, judged-on, judged-all, lengths, make-lengths, make-area, make-packs, pack-faulty, pack-right}
 use Rattle.track.proofs.blocks.judge_making.Statement.{statement}

@@ -7,9 +7,10 @@ use Prim.Native.Nat.{ℕ, _+_, _*_, _-_}
 use native.Mathlib.Omega.{arith}
 use lib.ListN.{length, take, drop}
 use Rattle.numbers.proofs.Tests.{fails, holds}
+use Rattle.items.proofs.Turns.{between-ends, length-between}
+use Rattle.block.specs.Faults.{blockFault}
 use Rattle.track.specs.Blocks.{blockAt}
-use Rattle.track.specs.Answer.{lengthsKept, blockFault}
-use Rattle.track.proofs.Turns.{between-ends, length-between}
+use Rattle.track.specs.Answer.{lengthsKept}
 use Rattle.track.proofs.Judged.{Judging, judged-fault, judged-on, judged-all, lengths, read-lengths, read-blocks}
 use Rattle.track.proofs.blocks.judge_reading.Statement.{statement}
 use Rattle.track.proofs.blocks.judge_reading.Tie as tie

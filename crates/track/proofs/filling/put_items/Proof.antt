@@ -5,8 +5,9 @@ use Prim.Native.Nat.{ℕ, _+_, _*_, _-_}
 use native.Mathlib.Omega.{arith}
 use lib.ListN.{take, drop}
 use Rattle.numbers.specs.Store.{put}
-use Rattle.track.specs.Blocks.{blockAt, dataPartIn, itemsOf}
-use Rattle.track.proofs.Turns.{between-ends, length-between, Filled, filled-none, filled-turn, filled-done}
+use Rattle.items.proofs.Turns.{between-ends, length-between, Filled, filled-none, filled-turn, filled-done}
+use Rattle.block.specs.Block.{dataPartIn}
+use Rattle.track.specs.Blocks.{blockAt, itemsOf}
 use Rattle.track.proofs.BlockLaws.{data-part-between, length-data-part-at}
 use Rattle.track.proofs.filling.put_items.Statement.{statement}
 use Rattle.track.proofs.filling.put_items.Tie as tie

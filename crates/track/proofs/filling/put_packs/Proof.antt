@@ -6,9 +6,10 @@ use Prim.Native.Nat.{ℕ, _+_, _*_, _-_}
 use native.Mathlib.Omega.{arith}
 use lib.ListN.{getD, set, length-set}
 use Rattle.numbers.specs.Store.{put}
-use Rattle.track.specs.Header.{packOf}
-use Rattle.track.specs.Blocks.{blockAt, sw2In, packsOf}
-use Rattle.track.proofs.Turns.{Wide, Filled, filled-none, filled-turn, filled-done}
+use Rattle.header.specs.Header.{packOf}
+use Rattle.items.proofs.Turns.{Wide, Filled, filled-none, filled-turn, filled-done}
+use Rattle.block.specs.Block.{sw2In}
+use Rattle.track.specs.Blocks.{blockAt, packsOf}
 use Rattle.track.proofs.BlockLaws.{sw2-at}
 use Rattle.track.proofs.filling.put_packs.Statement.{statement}
 use Rattle.track.proofs.filling.put_packs.Tie as tie

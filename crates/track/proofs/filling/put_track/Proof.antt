@@ -5,9 +5,9 @@ use Prim.Native.Nat.{ℕ, _+_, _*_, _-_}
 use native.Mathlib.Omega.{arith}
 use lib.ListN.{take, drop}
 use Rattle.numbers.specs.Store.{put}
-use Rattle.track.specs.Header.{packIn}
-use Rattle.track.specs.Blocks.{placesIn, blockOf, trackOf}
-use Rattle.track.proofs.Turns.{between-ends, length-between, Filled, filled-none, filled-turn, filled-done}
+use Rattle.items.proofs.Turns.{between-ends, length-between, Filled, filled-none, filled-turn, filled-done}
+use Rattle.block.specs.Block.{blockOf}
+use Rattle.track.specs.Blocks.{packIn, placesIn, trackOf}
 use Rattle.track.proofs.BlockLaws.{blocks-wide}
 use Rattle.track.proofs.filling.put_track.Statement.{statement}
 use Rattle.track.proofs.filling.put_track.Tie as tie

@@ -1,0 +1,2 @@
+-- The laws of a writer's four calls.
+pub mod Laws

@@ -1,0 +1,2 @@
+-- What a reader of this crate must believe: what the start of a writer, a record, a separator and an end leave.
+pub mod Calls

@@ -1,7 +1,0 @@
--- The laws that the proofs of this crate share, and its theorems.
-pub mod InformationLaws
-pub mod FlagLaws
-pub mod SearchLaws
-pub mod Settled
-pub mod Theorems
-pub mod Worked

@@ -1,8 +1,0 @@
--- `flags_kept` meets its contract: the mask. Assumes nothing.
-use borrow.Author.Needs.{needs}
-use Rattle.loader.proofs.InformationLaws.{flags-masked}
-use Rattle.loader.proofs.information.flags_kept.Statement.{statement}
-use Rattle.loader.proofs.information.flags_kept.Tie as tie
-
-pub flags-kept-spec : {M : Type 1} → statement M
-flags-kept-spec = tie.close (tie.spec (λ c. flags-masked (c .args .flags) (search needs)))

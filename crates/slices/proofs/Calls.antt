@@ -1,0 +1,94 @@
+-- Laws of the one shape of a call: one that its lengths refuse, one that goes on, and what is left in slices one by one.
+-- Assumes nothing.
+use mathlib.Core.Path.{_≡_, refl, sym, ap, _∙_}
+use mathlib.Core.Bool.{Bool, true, false, true≢false}
+use mathlib.Core.List.{List, [], _∷_}
+use Prim.Native.Nat.{ℕ}
+use native.Mathlib.Omega.{arith}
+use borrow.Author.Tests.{eqb-true}
+use lib.Dec.{eqb}
+use lib.ListN.{getD}
+use Rattle.numbers.specs.Numbers.{inBytes}
+use Rattle.numbers.proofs.Tests.{both}
+use Rattle.answer.specs.declared.Told.{Told}
+use Rattle.answer.specs.declared.Told.the-variants.{Accepted, RefusedAt}
+use Rattle.answer.specs.Answer.{numbersTold, refusalTold, ifAccepted}
+use Rattle.slices.specs.Call.{Left, left, slice, answerLength, lengthsKept, ofMeaning, called, Tells, Refuses}
+
+-- Two outcomes that meet a call's contract, which is that what it leaves is so and so, coincide: the returned number and every byte
+-- of every slice that it may write.
+pub settled : {x a b : Left} → a ≡ x → b ≡ x → a ≡ b
+settled e f = e ∙ sym f
+
+-- Slices of their lengths.
+pub lengths : (state own answer : ℕ) → lengthsKept state own answer ≡ true → (state ≡ own) × (answer ≡ answerLength)
+unfolding lengthsKept
+lengths state own answer e =
+    let h = both (eqb state own) (eqb answer answerLength) e in
+    (eqb-true state own (h .0), eqb-true answer answerLength (h .1))
+
+-- A slice of another length.
+pub stopped : {kept : Bool} (told : Told) (new old : List (List ℕ)) (answer : List ℕ) → kept ≡ false → left 1 old answer ≡ called kept told new old answer
+unfolding called
+stopped told new old answer e = rw e
+
+-- Slices of their lengths, once the call has told what it does.
+pub went-on : {kept : Bool} (told : Told) (new old : List (List ℕ)) (answer : List ℕ) {lent : List (List ℕ)} {refusal : ℕ} {after : List ℕ}
+    → kept ≡ true → lent ≡ ifAccepted told new old → Tells told refusal after → left refusal lent after ≡ called kept told new old answer
+unfolding called
+went-on told new old answer e f t = rw (e, f, t .returns, t .numbers)
+
+-- The same, by the answer of the call's own crate and what that tells.
+pub answered : {A : Type 0} (told : A → Told) {kept : Bool} {a b : A} {t : Told} (new old : List (List ℕ)) (answer : List ℕ) {lent : List (List ℕ)} {refusal : ℕ} {after : List ℕ}
+    → kept ≡ true → a ≡ b → t ≡ told a → lent ≡ ifAccepted (told a) new old → Tells t refusal after → left refusal lent after ≡ called kept (told b) new old answer
+answered {A} told {kept} {a} new old answer k e f l t =
+    went-on (told a) new old answer k l (rw f at t) ∙ ap (λ (x : A). called kept (told x) new old answer) e
+
+-- The tests before a call, where they refuse it and where they do not.
+pub refused-before : (kept meant : Bool) (told : Told) (new old : List (List ℕ)) (answer : List ℕ) {r : Bool} {after : List ℕ}
+    → Refuses kept meant answer r after → r ≡ true → left 1 old after ≡ called kept (ofMeaning meant told) new old answer
+unfolding called
+refused-before true true told new old answer h e = absurd (true≢false (sym e ∙ h .refuses))
+refused-before true false told new old answer h e = rw (h .numbers)
+refused-before false meant told new old answer h e = rw (h .numbers)
+
+pub let-by : (kept meant : Bool) {answer after : List ℕ} {r : Bool} → Refuses kept meant answer r after → r ≡ false → (kept ≡ true) × ((meant ≡ true) × (after ≡ answer))
+let-by true true h e = (refl, (refl, h .numbers))
+let-by true false h e = absurd (true≢false (sym (h .refuses) ∙ e))
+let-by false meant h e = absurd (true≢false (sym (h .refuses) ∙ e))
+
+-- No slice, and one more.
+pub none-lent : (told : Told) → _≡_ {A = List (List ℕ)} [] (ifAccepted told [] [])
+none-lent (Accepted outcome number entries taken) = refl
+none-lent (RefusedAt refusal place) = refl
+
+pub more-lent : (told : Told) (new old : List ℕ) (news olds : List (List ℕ)) {slice : List ℕ} {slices : List (List ℕ)}
+    → slice ≡ ifAccepted told new old → slices ≡ ifAccepted told news olds → slice ∷ slices ≡ ifAccepted told (new ∷ news) (old ∷ olds)
+more-lent (Accepted outcome number entries taken) new old news olds e f = rw (e, f)
+more-lent (RefusedAt refusal place) new old news olds e f = rw (e, f)
+
+-- A call that returns 0 is not one that its lengths refuse.
+pub let-through : {o : Left} (kept : Bool) (told : Told) (new old : List (List ℕ)) (answer : List ℕ) → o ≡ called kept told new old answer → o .refusal ≡ 0 → kept ≡ true
+unfolding called
+let-through true told new old answer e zero = refl
+let-through {o} false told new old answer e zero = let z : _≡_ {A = ℕ} 1 0 = sym (ap (λ (p : Left). p .refusal) e) ∙ zero in absurd (omega arith)
+
+-- What a call leaves that they let through.
+pub record Leaves (told : Told) (new old : List (List ℕ)) (o : Left) : Type 0 where
+  pub returns : o .refusal ≡ refusalTold told
+  pub slices : (k : ℕ) → slice o k ≡ ifAccepted told (getD new k []) (getD old k [])
+  pub numbers : o .answer ≡ inBytes (numbersTold told)
+
+slice-left : (told : Told) (new old : List (List ℕ)) (k : ℕ) → getD (ifAccepted told new old) k [] ≡ ifAccepted told (getD new k []) (getD old k [])
+slice-left (Accepted outcome number entries taken) new old k = refl
+slice-left (RefusedAt refusal place) new old k = refl
+
+pub leaves : {o : Left} {kept : Bool} (told : Told) (new old : List (List ℕ)) (answer : List ℕ) → o ≡ called kept told new old answer → kept ≡ true → Leaves told new old o
+unfolding called
+leaves told new old answer e k =
+    let f = rw k at e in
+    record {
+      returns = ap (λ (p : Left). p .refusal) f;
+      slices = λ i. ap (λ (p : Left). slice p i) f ∙ slice-left told new old i;
+      numbers = ap (λ (p : Left). p .answer) f;
+    }

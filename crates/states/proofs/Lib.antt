@@ -1,0 +1,3 @@
+-- Laws of states in their slices.
+pub mod NumberLaws
+pub mod StateLaws

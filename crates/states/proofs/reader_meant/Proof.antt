@@ -1,0 +1,15 @@
+-- `reader_meant` meets its contract. Assumes nothing.
+use borrow.Author.Needs.{needs}
+use mathlib.Core.Path.{ap}
+use Prim.Native.Nat.{ℕ}
+use Rattle.states.specs.States.{phaseMeant, readerMeant}
+use Rattle.states.proofs.reader_meant.Statement.{statement}
+use Rattle.states.proofs.reader_meant.Tie as tie
+
+pub reader-meant-spec : {M : Type 1} → statement M
+unfolding readerMeant
+reader-meant-spec =
+    tie.close
+    (tie.spec
+    (λ c κs. search needs)
+    (λ c. ap (λ (n : ℕ). phaseMeant n) (c .number-at .ensures)))
