@@ -11,7 +11,7 @@ use Rattle.laying.specs.declared.Fit.{Fit}
 use Rattle.laying.specs.declared.Fit.the-variants as fit
 
 -- What d data bytes, e entries and the information table take of a group.
-abbrev pub span : ℕ → ℕ → ℕ
+abbrev pub span : (d e : ℕ) → ℕ
 span d e = d + informationLength + entryLength * e
 
 -- One entry more has its place in a group of the state's own length.

@@ -4,12 +4,12 @@ use Prim.Native.Nat.{ℕ, _+_, _-_}
 use mathlib.Core.List.{List}
 use mathlib.Core.Bool.{Bool, false, _||_}
 use lib.ListN.{length, replicate}
+use Rattle.numbers.specs.Store.{put}
 use Rattle.group.specs.declared.Kind.{Kind}
 use Rattle.group.specs.declared.Kind.the-variants.{Total, Skip}
 use Rattle.group.specs.declared.Phase.{Phase}
 use Rattle.group.specs.declared.Phase.the-variants.{Free, Inside, Owed}
 use Rattle.group.specs.Sizes.{entryOffset}
-use Rattle.numbers.specs.Store.{put}
 use Rattle.group.specs.Flags.{flagOf}
 use Rattle.group.specs.Entries.{entry, entryBytes}
 use Rattle.laying.specs.declared.Writer.{Writer}
@@ -24,7 +24,7 @@ abbrev pub desk : Writer → List ℕ → Desk
 desk s g = record { state = s; group = g }
 
 -- The state with other "data bytes d, entries e".
-abbrev pub holding : ℕ → ℕ → Writer → Writer
+abbrev pub holding : (d e : ℕ) → Writer → Writer
 holding d e s =
     record {
       size = s .size;
@@ -38,7 +38,7 @@ holding d e s =
     }
 
 -- The state with another phase, "sum of parts so far" and "rest of an open record".
-abbrev pub movedState : Phase → ℕ → ℕ → Writer → Writer
+abbrev pub movedState : Phase → (sum rest : ℕ) → Writer → Writer
 movedState phase sum rest s =
     record {
       size = s .size;
@@ -98,7 +98,7 @@ unfoldable pub layPart : Kind → List ℕ → Desk → Desk
 layPart kind bytes w = layEntry kind (length bytes) (layData bytes w)
 
 -- The same desk, its state in another phase.
-unfoldable pub moved : Phase → ℕ → ℕ → Desk → Desk
+unfoldable pub moved : Phase → (sum rest : ℕ) → Desk → Desk
 moved phase sum rest w = desk (movedState phase sum rest (w .state)) (w .group)
 
 -- "skip: L less all data bytes before it"

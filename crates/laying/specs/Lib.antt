@@ -1,4 +1,5 @@
--- What a reader of this crate must believe, in document 01's order, and the one file that serves only proofs (Bounds).
+-- What a reader of this crate must believe, in document 01's order: the room, and what is laid. Bounds serves only the
+-- contracts of helpers, and proofs.
 pub mod Room
 pub mod Laying
 pub mod Bounds

@@ -1,4 +1,5 @@
-// The state of a writer, and what is laid in a group.
+// The state of a writer, the room that its group has left, and what is laid in it: document 01, "Writing". When a state is
+// sound, and what a call answers, the crates above say.
 pub mod lay;
 pub mod room;
 

@@ -136,7 +136,7 @@ image number entries bytes = record { number = number; entries = entries; bytes 
 abbrev pub ok : List ℕ
 ok = 0 ∷ 0 ∷ 0 ∷ 0 ∷ 0 ∷ 0 ∷ []
 
-abbrev pub closeOf : ℕ → ℕ → ℕ → List ℕ
+abbrev pub closeOf : (number entries taken : ℕ) → List ℕ
 closeOf number entries taken = 0 ∷ 0 ∷ 1 ∷ number ∷ entries ∷ taken ∷ []
 
 abbrev pub refusedAt : ℕ → ℕ → List ℕ

@@ -8,12 +8,12 @@ use native.Mathlib.Omega.{arith}
 use lib.ListN.{length}
 use lib.Dec.{eqb}
 use borrow.Author.Tests.{leb-true, eqb-true, eqb-false, not-false, not-true}
-use Rattle.group.specs.Sizes.{longestRecord, lastNumber, recordKept}
 use Rattle.numbers.proofs.Tests.{within, passed}
+use Rattle.group.specs.Sizes.{longestRecord, lastNumber, recordKept}
 use Rattle.group.specs.declared.Phase.the-variants.{Inside}
 use Rattle.laying.specs.declared.Writer.{Writer}
-use Rattle.sound.specs.State.{isFree, isInside, isOwed, writerSound, lengthKept, remainsKept, noneOpenKept, valueKept, offerKept, endRemainsKept, endsEmpty, recordRefusal, separatorRefusal, endRefusal}
 use Rattle.laying.specs.Bounds.{Grown, Ready, Opened, span}
+use Rattle.sound.specs.State.{isFree, isInside, isOwed, writerSound, lengthKept, remainsKept, noneOpenKept, valueKept, offerKept, endRemainsKept, endsEmpty, recordRefusal, separatorRefusal, endRefusal}
 use Rattle.sound.proofs.Exits.{RemainsMet}
 use Rattle.sound.proofs.SoundLaws.{Sound, sound, chosen}
 

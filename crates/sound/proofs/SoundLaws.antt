@@ -6,9 +6,9 @@ use Prim.Native.Nat.{ℕ, _+_, _*_, _≤_, _<_}
 use native.Mathlib.Omega.{arith}
 use lib.Dec.{eqb, ltb}
 use borrow.Author.Tests.{leb-true, ltb-true, eqb-true, eq-eqb, le-leb, lt-ltb, not-true}
+use Rattle.numbers.proofs.Tests.{both, and}
 use Rattle.group.specs.Sizes.{informationLength, entryLength, longestRecord, lastNumber}
 use Rattle.group.specs.State.{runSound}
-use Rattle.numbers.proofs.Tests.{both, and}
 use Rattle.group.proofs.StateLaws.{Run, run-of-sound, sound-of-run}
 use Rattle.laying.specs.declared.Writer.{Writer}
 use Rattle.sound.specs.State.{isFree, isInside, isEmpty, roomKept, emptyKept, restKept, dataKept, clearKept, spentKept, writerSound}

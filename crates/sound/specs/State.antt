@@ -91,8 +91,8 @@ endRemainsKept s = implies (isOwed (s .phase)) (remainsKept s)
 abbrev pub endsEmpty : Writer → Bool
 endsEmpty s = not (isOwed (s .phase)) && eqb (s .entries) 0
 
--- "Record 1, 4, 14, 15, 16." The number of a record's refusal, 0 if it is accepted.
-unfoldable pub recordRefusal : Writer → ℕ → ℕ → ℕ
+-- "Record 1, 4, 14, 15, 16." The number of a record's refusal, 0 if it is accepted, by the lengths of the group and of the data.
+unfoldable pub recordRefusal : Writer → (len n : ℕ) → ℕ
 recordRefusal s len n =
     cond (not (writerSound s)) 1
     (cond (not (lengthKept s len)) 4
@@ -101,7 +101,7 @@ recordRefusal s len n =
     (cond (not (offerKept s n)) 16 0))))
 
 -- "Separator 1, 4, 14, 17, 18."
-unfoldable pub separatorRefusal : Writer → ℕ → ℕ → ℕ
+unfoldable pub separatorRefusal : Writer → (len value : ℕ) → ℕ
 separatorRefusal s len value =
     cond (not (writerSound s)) 1
     (cond (not (lengthKept s len)) 4

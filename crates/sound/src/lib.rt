@@ -1,4 +1,5 @@
-// When a writer's state is sound, and what each call refuses: the tests of document 01, in its order.
+// When a writer's state is sound, and what each call refuses: the tests of document 01, in its order. Any state may come in;
+// a refusal is its number, and 0 is none.
 ghost use mathlib.Core.Path.{_≡_};
 ghost use Rattle.sound.specs.State.{isFree, isInside, isOwed, isEmpty, endsEmpty};
 ghost use Rattle.sound.specs.State.{roomKept, emptyKept, restKept, dataKept, clearKept, spentKept, writerSound};

@@ -13,13 +13,13 @@ use Rattle.group.specs.declared.Kind.the-variants as kind
 use Rattle.group.specs.declared.Phase.the-variants.{Free, Inside, Owed}
 use Rattle.laying.specs.declared.Fit.{Fit}
 use Rattle.laying.specs.declared.Fit.the-variants as fit
-use Rattle.sound.specs.State.{endsEmpty, recordRefusal, separatorRefusal, endRefusal}
 use Rattle.laying.specs.Room.{room, fitOf, separatorFits, middleLength, lastWithTotal}
 use Rattle.laying.specs.Laying.{Desk, desk, layEntry, layPart, moved, shut, ready}
-use Rattle.writer.specs.Calls.{Done, finished, closed, byFit, recordFree, recordInside, middle, last, recordAccepted, recordCall, separatorAccepted, separatorCall, endAccepted, endCall, told, stateOf}
 use Rattle.laying.specs.Bounds.{Fitted, span}
-use Rattle.writer.proofs.Desks.{accept}
 use Rattle.laying.proofs.RoomLaws.{fitted, separator-fits, separator-lacks}
+use Rattle.sound.specs.State.{endsEmpty, recordRefusal, separatorRefusal, endRefusal}
+use Rattle.writer.specs.Calls.{Done, finished, closed, byFit, recordFree, recordInside, middle, last, recordAccepted, recordCall, separatorAccepted, separatorCall, endAccepted, endCall, told, stateOf}
+use Rattle.writer.proofs.Desks.{accept}
 
 -- "Record of n bytes, free."
 pub data RecordedFree (bytes : List ℕ) (w : Desk) : Done → Type 0 where

@@ -6,8 +6,8 @@ use Prim.Native.Nat.{ℕ}
 use borrow.Author.Tests.{ne-eqb, eq-eqb}
 use Rattle.group.specs.declared.Phase.{Phase}
 use Rattle.laying.specs.declared.Writer.{Writer}
-use Rattle.writer.specs.declared.WriteAnswer.the-variants.{Refused}
 use Rattle.laying.specs.Laying.{Desk, desk, moved, movedState}
+use Rattle.writer.specs.declared.WriteAnswer.the-variants.{Refused}
 use Rattle.writer.specs.Calls.{Done, done, Meets, orRefused}
 
 -- A state that is moved before a last step f.

@@ -7,26 +7,26 @@ use Prim.Native.Nat.{ℕ, _+_, _-_, _≤_}
 use native.Mathlib.Omega.{arith}
 use lib.ListN.{length, drop, take, replicate, length-replicate}
 use lib.Seq.{length-take-le}
+use Rattle.numbers.specs.Store.{put}
+use Rattle.numbers.proofs.Tests.{within, is-within}
+use Rattle.numbers.proofs.Stores.{length-put, drop-put}
 use Rattle.answer.specs.Answer.{refusalTold, ifAccepted}
 use Rattle.group.specs.declared.Kind.{Kind}
 use Rattle.group.specs.declared.Kind.the-variants.{Total, Separator, Middle, Start, Last, Entire, Skip}
 use Rattle.group.specs.declared.Phase.{Phase}
 use Rattle.group.specs.declared.Phase.the-variants.{Free, Inside, Owed}
 use Rattle.group.specs.Sizes.{leastSize, standardSize, informationLength, longestRecord, lastNumber, entryOffset}
-use Rattle.numbers.specs.Store.{put}
 use Rattle.group.specs.Flags.{flagOf}
 use Rattle.group.specs.Entries.{entry, entryBytes}
 use Rattle.group.specs.State.{sumKept}
-use Rattle.numbers.proofs.Tests.{within, is-within}
-use Rattle.numbers.proofs.Stores.{length-put, drop-put}
 use Rattle.group.proofs.EntryLaws.{length-entry}
 use Rattle.laying.specs.declared.Writer.{Writer}
-use Rattle.sound.specs.State.{isFree, isInside}
 use Rattle.laying.specs.Laying.{Desk, desk, layEntry, layData, layPart, moved, laySkip, zeroGap, shut, warnState, payOwed, ready}
-use Rattle.writer.specs.Calls.{Done, finished, closed, recordFree, recordAccepted, separatorAccepted, endAccepted, told, stateOf}
 use Rattle.laying.specs.Bounds.{span}
+use Rattle.sound.specs.State.{isFree, isInside}
 use Rattle.sound.proofs.SoundLaws.{Nothing, Sound}
 use Rattle.sound.proofs.Accepted.{Accepted, Offered, Separated, Ended, fits}
+use Rattle.writer.specs.Calls.{Done, finished, closed, recordFree, recordAccepted, separatorAccepted, endAccepted, told, stateOf}
 use Rattle.writer.proofs.CallLaws.{RecordedFree, entire, start, nothing, recorded-free, RecordedInside, part, total, owed, recorded-inside, SeparatorLaid, laid, not-laid, separator-laid, EndLaid, ends-nothing, ends-group, end-laid}
 
 -- A group is as long as another, and its information table the same.

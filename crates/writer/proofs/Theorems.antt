@@ -9,21 +9,21 @@ use lib.IntN.{negsuc}
 use lib.ListN.{length, drop}
 use lib.Signed.{leZ}
 use borrow.Author.Tests.{eqb-true, eqb-false}
+use Rattle.numbers.proofs.Tests.{within}
 use Rattle.answer.specs.Answer.{refusalTold, ifAccepted}
 use Rattle.group.specs.Sizes.{leastSize, standardSize, informationLength, lastNumber}
 use Rattle.group.specs.State.{startRefusal}
-use Rattle.numbers.proofs.Tests.{within}
 use Rattle.group.proofs.StateLaws.{started}
 use Rattle.laying.specs.declared.Writer.{Writer}
-use Rattle.writer.specs.declared.WriterStart.the-variants as start
-use Rattle.writer.specs.declared.WriteAnswer.the-variants.{Refused}
-use Rattle.sound.specs.State.{writerSound}
 use Rattle.laying.specs.Room.{room}
 use Rattle.laying.specs.Laying.{Desk}
-use Rattle.writer.specs.Calls.{Done, done, orRefused, freshState, writerStartCall, recordCall, separatorCall, endCall, Call, aRecord, aSeparator, anEnd, refusalOf, call, told, stateOf}
 use Rattle.laying.proofs.RoomLaws.{room-least}
+use Rattle.sound.specs.State.{writerSound}
 use Rattle.sound.proofs.SoundLaws.{sound, is-sound}
 use Rattle.sound.proofs.Accepted.{fits, record-accepted, separator-accepted, end-accepted}
+use Rattle.writer.specs.declared.WriterStart.the-variants as start
+use Rattle.writer.specs.declared.WriteAnswer.the-variants.{Refused}
+use Rattle.writer.specs.Calls.{Done, done, orRefused, freshState, writerStartCall, recordCall, separatorCall, endCall, Call, aRecord, aSeparator, anEnd, refusalOf, call, told, stateOf}
 use Rattle.writer.proofs.Left.{Stays, stays-same, Left, record-left, separator-left, end-left}
 
 -- A call is its refusal, or what its accepted form leaves.

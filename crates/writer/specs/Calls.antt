@@ -14,15 +14,15 @@ use Rattle.group.specs.declared.Phase.{Phase}
 use Rattle.group.specs.declared.Phase.the-variants.{Free, Inside, Owed}
 use Rattle.group.specs.State.{startRefusal}
 use Rattle.laying.specs.declared.Writer.{Writer}
+use Rattle.laying.specs.declared.Fit.{Fit}
+use Rattle.laying.specs.declared.Fit.the-variants as fit
+use Rattle.laying.specs.Room.{room, fitOf, separatorFits, middleLength, lastWithTotal}
+use Rattle.laying.specs.Laying.{Desk, layEntry, layPart, moved, shut, ready}
+use Rattle.sound.specs.State.{endsEmpty, recordRefusal, separatorRefusal, endRefusal}
 use Rattle.writer.specs.declared.WriterStart.{WriterStart}
 use Rattle.writer.specs.declared.WriterStart.the-variants as start
 use Rattle.writer.specs.declared.WriteAnswer.{WriteAnswer}
 use Rattle.writer.specs.declared.WriteAnswer.the-variants.{Finished, Closed, Refused}
-use Rattle.laying.specs.declared.Fit.{Fit}
-use Rattle.laying.specs.declared.Fit.the-variants as fit
-use Rattle.sound.specs.State.{endsEmpty, recordRefusal, separatorRefusal, endRefusal}
-use Rattle.laying.specs.Room.{room, fitOf, separatorFits, middleLength, lastWithTotal}
-use Rattle.laying.specs.Laying.{Desk, layEntry, layPart, moved, shut, ready}
 
 -- A call's answer and the buffer that it leaves.
 pub record Done : Type 0 where
@@ -51,12 +51,12 @@ unfoldable pub orRefused : ℕ → Desk → Done → Done
 orRefused refusal w a = cond (eqb refusal 0) a (done (Refused (w .state) refusal) (w .group))
 
 -- "A writer starts the same way": free, with nothing laid.
-abbrev pub freshState : ℕ → ℕ → Writer
+abbrev pub freshState : (size first : ℕ) → Writer
 freshState size first =
     record { size = size; next = first; phase = Free; warned = false; sum = 0; rest = 0; filled = 0; entries = 0 }
 
 -- "Order: start 2, 3." "A refused start gives no state."
-unfoldable pub writerStartCall : ℕ → ℕ → WriterStart
+unfoldable pub writerStartCall : (size first : ℕ) → WriterStart
 writerStartCall size first =
     cond (eqb (startRefusal size first) 0) (start.Started (freshState size first)) (start.Refused (startRefusal size first))
 

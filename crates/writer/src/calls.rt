@@ -5,8 +5,8 @@ ghost use lib.ListN.{length};
 ghost use Rattle.group.specs.Sizes.{longestRecord, lastNumber};
 ghost use Rattle.laying.specs.Room.{middleLength};
 ghost use Rattle.laying.specs.Laying.{desk};
-ghost use Rattle.writer.specs.Calls.{done, closed, recordFree, recordInside, middle, last, separatorAccepted};
 ghost use Rattle.laying.specs.Bounds.{Roomy, Opened};
+ghost use Rattle.writer.specs.Calls.{done, closed, recordFree, recordInside, middle, last, separatorAccepted};
 use crate::WriteAnswer;
 use group::Kind;
 use group::Phase;
@@ -30,6 +30,7 @@ pub(crate) fn close(w: Writer, group: &mut [u8], taken: u32) -> WriteAnswer
     }
 }
 
+// A record of a free writer: whole, as a start that fills the group, or none of it.
 pub(crate) fn record_free(w: Writer, group: &mut [u8], data: &[u8]) -> WriteAnswer
     requires { ⌜ Roomy w (now group) ⌝ }
     requires { ⌜ (w .next ≤ lastNumber) × (length (now «data») ≤ longestRecord) ⌝ }
@@ -85,6 +86,7 @@ fn record_last(w: Writer, group: &mut [u8], data: &[u8]) -> WriteAnswer
     close(m, group, n)
 }
 
+// More of an open record: a middle part, or the last.
 pub(crate) fn record_inside(w: Writer, group: &mut [u8], data: &[u8]) -> WriteAnswer
     requires { ⌜ Roomy w (now group) ⌝ }
     requires { ⌜ Opened w (length (now «data»)) ⌝ }
@@ -98,6 +100,7 @@ pub(crate) fn record_inside(w: Writer, group: &mut [u8], data: &[u8]) -> WriteAn
     record_last(w, group, data)
 }
 
+// A separator: laid where it and the skip have room.
 pub(crate) fn separator(w: Writer, group: &mut [u8], value: u32) -> WriteAnswer
     requires { ⌜ Roomy w (now group) ⌝ }
     requires { ⌜ w .next ≤ lastNumber ⌝ }

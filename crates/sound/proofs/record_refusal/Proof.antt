@@ -1,7 +1,7 @@
 -- `record_refusal` meets its contract: the tests of the definition, in its order. Assumes nothing.
 use borrow.Author.Needs.{needs}
 use Rattle.numbers.proofs.Tests.{fails, holds}
-use Rattle.sound.proofs.Exits.{LengthMet, RemainsMet, SomeMet, RecordMet}
+use Rattle.sound.proofs.Exits.{LengthMet, RemainsMet, RecordMet}
 use Rattle.sound.proofs.Exits.{record-unsound, record-length, record-spent, record-empty, record-long, record-free, record-other, record-rest}
 use Rattle.sound.proofs.record_refusal.Statement.{statement}
 use Rattle.sound.proofs.record_refusal.Tie as tie

@@ -1,7 +1,6 @@
 -- `ready` meets its contract, by the phase: where a total is owed the group is empty, so there is room for it. Assumes nothing.
 use borrow.Author.Needs.{needs}
 use mathlib.Core.Path.{_≡_, refl, sym, ap, _∙_}
-use Rattle.laying.specs.Laying.{desk, ready, payOwed, moved, layEntry, warnState}
 use Prim.Native.Nat.{ℕ}
 use mathlib.Core.Bool.{Bool}
 use native.Mathlib.Omega.{arith}
@@ -9,6 +8,7 @@ use mathlib.Core.List.{List}
 use Rattle.group.specs.declared.Kind.the-variants.{Total}
 use Rattle.group.specs.declared.Phase.{Phase}
 use Rattle.group.specs.declared.Phase.the-variants.{Free, Inside, Owed}
+use Rattle.laying.specs.Laying.{desk, ready, payOwed, moved, layEntry, warnState}
 use Rattle.laying.specs.declared.Writer.{Writer}
 use Rattle.laying.specs.Bounds.{Grown}
 use Rattle.laying.proofs.lay.ready.Statement.{statement}

@@ -2,12 +2,12 @@
 use borrow.Author.Needs.{needs}
 use native.Mathlib.Omega.{arith}
 use mathlib.Core.Path.{_≡_, ap, _∙_}
-use Rattle.laying.specs.Room.{room, fitOf}
-use Rattle.laying.proofs.SignedLaws.{read, le-read}
-use Rattle.laying.proofs.RoomLaws.{room-natural}
 use mathlib.Core.Bool.{true}
 use lib.IntN.{ℤ, pos, natAbs}
 use lib.Signed.{leZ}
+use Rattle.laying.specs.Room.{room, fitOf}
+use Rattle.laying.proofs.SignedLaws.{read, le-read}
+use Rattle.laying.proofs.RoomLaws.{room-natural}
 use Rattle.laying.specs.declared.Fit.the-variants.{Start}
 use Rattle.laying.proofs.room.fit.Statement.{statement}
 use Rattle.laying.proofs.room.fit.Tie as tie

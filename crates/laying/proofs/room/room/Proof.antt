@@ -2,10 +2,10 @@
 use borrow.Author.Needs.{needs}
 use native.Mathlib.Omega.{arith}
 use mathlib.Core.Path.{_∙_}
-use Rattle.laying.specs.Room.{room}
-use Rattle.laying.proofs.SignedLaws.{minus-four-fits, minus-four, sub-eq}
 use Prim.Native.Nat.{ℕ, _+_, _*_, _-_}
 use Rattle.group.specs.Sizes.{informationLength, entryLength}
+use Rattle.laying.specs.Room.{room}
+use Rattle.laying.proofs.SignedLaws.{minus-four-fits, minus-four, sub-eq}
 use Rattle.laying.proofs.room.room.Statement.{statement}
 use Rattle.laying.proofs.room.room.Tie as tie
 

@@ -2,7 +2,7 @@
 use borrow.Author.Needs.{needs}
 use mathlib.Core.Path.{ap}
 use Prim.Native.Nat.{_+_}
-use Rattle.laying.specs.Laying.{Desk, desk}
+use Rattle.laying.specs.Laying.{Desk}
 use Rattle.writer.specs.declared.WriteAnswer.the-variants.{Closed}
 use Rattle.writer.specs.Calls.{done, closed}
 use Rattle.writer.proofs.calls.close.Statement.{statement}

@@ -2,18 +2,18 @@
 use borrow.Author.Needs.{needs}
 use native.Mathlib.Omega.{arith}
 use mathlib.Core.Path.{_≡_, sym, ap, _∙_, subst}
-use Rattle.laying.specs.Room.{room, fitOf}
-use Rattle.laying.proofs.RoomLaws.{fitted}
-use Rattle.writer.specs.Calls.{finished, closed, byFit, recordFree}
-use Rattle.writer.proofs.Desks.{move-on}
 use lib.Seq.{length-take-le}
 use Prim.Native.Nat.{ℕ, _+_, _-_, _<_}
 use mathlib.Core.List.{List}
 use lib.ListN.{length, take}
 use Rattle.group.specs.declared.Phase.the-variants.{Inside}
+use Rattle.laying.specs.Room.{room, fitOf}
+use Rattle.laying.proofs.RoomLaws.{fitted}
 use Rattle.laying.specs.declared.Writer.{Writer}
 use Rattle.laying.specs.declared.Fit.{Fit}
 use Rattle.laying.specs.Bounds.{span, Fitted}
+use Rattle.writer.specs.Calls.{finished, closed, byFit, recordFree}
+use Rattle.writer.proofs.Desks.{move-on}
 use Rattle.writer.proofs.calls.record_free.Statement.{statement}
 use Rattle.writer.proofs.calls.record_free.Tie as tie
 

@@ -2,10 +2,10 @@
 use borrow.Author.Needs.{needs}
 use native.Mathlib.Omega.{arith}
 use borrow.Author.Tests.{lt-ltb, le-ltb}
-use Rattle.laying.specs.Room.{middleLength}
-use Rattle.writer.specs.Calls.{recordInside}
 use Prim.Native.Nat.{_≤_, _<_}
 use lib.ListN.{length}
+use Rattle.laying.specs.Room.{middleLength}
+use Rattle.writer.specs.Calls.{recordInside}
 use Rattle.writer.proofs.calls.record_inside.Statement.{statement}
 use Rattle.writer.proofs.calls.record_inside.Tie as tie
 

@@ -3,14 +3,14 @@ use borrow.Author.Needs.{needs}
 use native.Mathlib.Omega.{arith}
 use mathlib.Core.Path.{ap, _∙_}
 use borrow.Author.Tests.{le-leb, lt-leb}
-use Rattle.laying.specs.Room.{lastWithTotal}
-use Rattle.laying.specs.Laying.{layEntry}
-use Rattle.writer.specs.Calls.{finished, closed, last}
-use Rattle.writer.proofs.Desks.{move-on}
 use Prim.Native.Nat.{_+_, _≤_, _<_}
 use lib.ListN.{length}
 use Rattle.group.specs.declared.Kind.the-variants.{Total}
 use Rattle.group.specs.declared.Phase.the-variants.{Free, Owed}
+use Rattle.laying.specs.Room.{lastWithTotal}
+use Rattle.laying.specs.Laying.{layEntry}
+use Rattle.writer.specs.Calls.{finished, closed, last}
+use Rattle.writer.proofs.Desks.{move-on}
 use Rattle.writer.proofs.calls.record_last.Statement.{statement}
 use Rattle.writer.proofs.calls.record_last.Tie as tie
 

@@ -2,12 +2,12 @@
 use borrow.Author.Needs.{needs}
 use native.Mathlib.Omega.{arith}
 use mathlib.Core.Path.{_≡_, sym, _∙_}
-use Rattle.writer.specs.Calls.{closed, middle}
-use Rattle.writer.proofs.Desks.{move-on}
 use lib.Seq.{length-take-le}
 use Prim.Native.Nat.{_+_, _-_}
 use lib.ListN.{length, take}
 use Rattle.group.specs.declared.Phase.the-variants.{Inside}
+use Rattle.writer.specs.Calls.{closed, middle}
+use Rattle.writer.proofs.Desks.{move-on}
 use Rattle.writer.proofs.calls.record_middle.Statement.{statement}
 use Rattle.writer.proofs.calls.record_middle.Tie as tie
 

@@ -2,8 +2,8 @@
 use borrow.Author.Needs.{needs}
 use native.Mathlib.Omega.{arith}
 use mathlib.Core.Path.{ap}
-use Rattle.writer.specs.Calls.{separatorAccepted, finished}
 use Rattle.laying.proofs.SignedLaws.{le-read}
+use Rattle.writer.specs.Calls.{separatorAccepted, finished}
 use Rattle.writer.proofs.calls.separator.Statement.{statement}
 use Rattle.writer.proofs.calls.separator.Tie as tie
 
