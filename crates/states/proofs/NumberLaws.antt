@@ -1,13 +1,15 @@
--- A phase and b4 from their numbers and back.
+-- A phase and b4 from their numbers and back, and which numbers of a writer's slice and call have a meaning.
 -- Assumes nothing.
 use mathlib.Core.Path.{_≡_, refl}
-use mathlib.Core.Bool.{Bool, true, false}
-use Prim.Native.Nat.{ℕ, zero, suc}
+use mathlib.Core.Bool.{Bool, true, false, _&&_}
+use mathlib.Core.List.{List}
+use Prim.Native.Nat.{ℕ, zero, suc, _≤_, _<_}
 use native.Mathlib.Omega.{arith}
-use borrow.Author.Tests.{leb-true}
+use borrow.Author.Tests.{leb-true, le-leb, lt-leb}
+use Rattle.numbers.specs.Numbers.{field}
 use Rattle.group.specs.declared.Phase.{Phase}
 use Rattle.group.specs.declared.Phase.the-variants.{Free, Inside, Owed}
-use Rattle.states.specs.States.{phaseNumber, phaseOf, phaseMeant, b4Number, b4Set, b4Meant}
+use Rattle.states.specs.States.{phaseNumber, phaseOf, phaseMeant, b4Number, b4Set, b4Meant, writerMeant}
 
 pub phase-of-number : (p : Phase) → phaseOf (phaseNumber p) ≡ p
 phase-of-number Free = refl
@@ -28,3 +30,17 @@ pub number-of-b4 : (n : ℕ) → b4Meant n ≡ true → b4Number (b4Set n) ≡ n
 number-of-b4 zero e = refl
 number-of-b4 (suc zero) e = refl
 number-of-b4 (suc (suc n)) e = absurd (omega (arith, leb-true (suc (suc n)) 1 e))
+
+-- The tests of a writer's slice and of `warn`, one law an exit.
+module _ (slice : List ℕ) (warn : ℕ) where
+  pub phase-unmeant : 2 < field slice 2 → false ≡ writerMeant slice && b4Meant warn
+  unfolding writerMeant
+  phase-unmeant h = rw (lt-leb (field slice 2) 2 h)
+
+  pub b4-unmeant : field slice 2 ≤ 2 → 1 < field slice 6 → false ≡ writerMeant slice && b4Meant warn
+  unfolding writerMeant
+  b4-unmeant h k = rw (le-leb (field slice 2) 2 h, lt-leb (field slice 6) 1 k)
+
+  pub warn-meant : field slice 2 ≤ 2 → field slice 6 ≤ 1 → b4Meant warn ≡ writerMeant slice && b4Meant warn
+  unfolding writerMeant
+  warn-meant h k = rw (le-leb (field slice 2) 2 h, le-leb (field slice 6) 1 k)

@@ -113,6 +113,10 @@ seen-finished state group (Closed s number entries taken) g t h e f =
     absurd (omega arith)
 seen-finished state group (Refused s refusal) g t h e f = absurd (t e)
 
+closed-as : {s s′ : Writer} {number number′ entries entries′ taken taken′ : ℕ} → s′ ≡ s → number′ ≡ number → entries′ ≡ entries → taken′ ≡ taken →
+    Closed s number entries taken ≡ Closed s′ number′ entries′ taken′
+closed-as e f g h = rw (e, f, g, h)
+
 seen-closed : (state group : List ℕ) (a : WriteAnswer) (g : List ℕ) → Tells a → SoundAfter a → refusalTold (told a) ≡ 0 → outcomeSeen (own (done a g) state group) ≡ 1 →
     Step (done a g) (closedSeen (own (done a g) state group)) (own (done a g) state group)
 unfolding stateOf
@@ -125,7 +129,7 @@ seen-closed state group (Closed s number entries taken) g t h e f =
     let a = field-of-bytes ns 3 (omega arith) (t .0) in
     let b = field-of-bytes ns 4 (omega arith) (t .1 .0) in
     let c = field-of-bytes ns 5 (omega arith) (t .1 .1) in
-    record { answer = rw (back s (h e), a, b, c) refl; sound = sound-back s (h e); bytes = bytes-back s (h e); lent = refl }
+    record { answer = closed-as (back s (h e)) a b c; sound = sound-back s (h e); bytes = bytes-back s (h e); lent = refl }
 seen-closed state group (Refused s refusal) g t h e f = absurd (t e)
 
 step-finished : {d : Done} {state group answer : List ℕ} {o : Left} → Tells (d .answer) → SoundAfter (d .answer) → Way d state group answer o →

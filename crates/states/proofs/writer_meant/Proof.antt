@@ -1,17 +1,16 @@
 -- `writer_meant` meets its contract: the tests of the definition, in its order. Assumes nothing.
 use borrow.Author.Needs.{needs}
-use borrow.Author.Tests.{le-leb, lt-leb}
-use Rattle.states.specs.States.{writerMeant}
+use native.Mathlib.Omega.{arith}
+use Rattle.states.proofs.NumberLaws.{phase-unmeant, b4-unmeant, warn-meant}
 use Rattle.states.proofs.writer_meant.Statement.{statement}
 use Rattle.states.proofs.writer_meant.Tie as tie
 
 pub writer-meant-spec : {M : Type 1} → statement M
-unfolding writerMeant
 writer-meant-spec =
     tie.close
     (tie.spec
     (λ c κs. search needs)
-    (λ c. rw (← c .before .number-at .ensures, lt-leb _ _ (c .if1 .taken)))
+    (λ c. phase-unmeant (c .before .before .before .args .slice .now) (c .before .before .before .args .warn) (omega (arith, c .before .number-at .ensures)))
     (λ c κs. search needs)
-    (λ c. rw (← c .before .before .before .number-at .ensures, ← c .before .number-at2 .ensures, le-leb _ _ (c .before .before .if1 .left), lt-leb _ _ (c .if2 .taken)))
-    (λ c. rw (← c .before .before .before .number-at .ensures, ← c .before .number-at2 .ensures, le-leb _ _ (c .before .before .if1 .left), le-leb _ _ (c .if2 .left))))
+    (λ c. b4-unmeant (c .before .before .before .before .before .args .slice .now) (c .before .before .before .before .before .args .warn) (omega (arith, c .before .before .before .number-at .ensures)) (omega (arith, c .before .number-at2 .ensures)))
+    (λ c. warn-meant (c .before .before .before .before .before .args .slice .now) (c .before .before .before .before .before .args .warn) (omega (arith, c .before .before .before .number-at .ensures)) (omega (arith, c .before .number-at2 .ensures))))
