@@ -1,8 +1,8 @@
 /* The five calls of include/dds.h on the AIT loader's memory as a plain C implementation of change request 2026-11 and of source
    document 001, under the prefix model_. Only the tests use it: the library is held against it byte for byte. */
 
-#ifndef AIT_MODEL_H
-#define AIT_MODEL_H
+#ifndef LOADER_MODEL_H
+#define LOADER_MODEL_H
 
 #include "model.h"
 

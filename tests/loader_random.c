@@ -1,14 +1,14 @@
 /* The AIT loader's memory at random, compared with the model: volumes made of right and wrong fields, read whole and with a few
-   bytes changed; flags; received bytes that hold whole, cut and nearly right starts. COUNT is how many of each: ait_random [COUNT]. */
+   bytes changed; flags; received bytes that hold whole, cut and nearly right starts. COUNT is how many of each: loader_random [COUNT]. */
 
 #include "pair.h"
-#include "ait_model.h"
+#include "loader_model.h"
 
 typedef struct { pair fields, volume, alert, received, answer; } lent_memory;
 
 static long refusals[80], found;
 
-static uint32_t ait_compared(const lent_memory *s, const char *call, uint32_t a, uint32_t b)
+static uint32_t loader_compared(const lent_memory *s, const char *call, uint32_t a, uint32_t b)
 {
     const char *differs = a != b ? "returned number" : !alike(&s->answer) ? "answer" : !alike(&s->fields) ? "fields"
         : !alike(&s->volume) ? "volume" : !alike(&s->alert) ? "flags" : !alike(&s->received) ? "received bytes" : 0;
@@ -29,7 +29,7 @@ static uint32_t both_make(lent_memory *s)
     lend_memory(s);
     a = dds_volume_make(ours(&s->fields), s->fields.len, ours(&s->volume), s->volume.len, ours(&s->answer), s->answer.len);
     b = model_volume_make(theirs(&s->fields), s->fields.len, theirs(&s->volume), s->volume.len, theirs(&s->answer), s->answer.len);
-    return ait_compared(s, "volume made", a, b);
+    return loader_compared(s, "volume made", a, b);
 }
 
 static uint32_t both_read_volume(lent_memory *s)
@@ -38,7 +38,7 @@ static uint32_t both_read_volume(lent_memory *s)
     lend_memory(s);
     a = dds_volume_read(ours(&s->volume), s->volume.len, ours(&s->fields), s->fields.len, ours(&s->answer), s->answer.len);
     b = model_volume_read(theirs(&s->volume), s->volume.len, theirs(&s->fields), s->fields.len, theirs(&s->answer), s->answer.len);
-    return ait_compared(s, "volume read", a, b);
+    return loader_compared(s, "volume read", a, b);
 }
 
 static void both_alert(lent_memory *s)
@@ -47,13 +47,13 @@ static void both_alert(lent_memory *s)
     lend_memory(s);
     a = dds_alert_make(high, low, ours(&s->alert), s->alert.len, ours(&s->answer), s->answer.len);
     b = model_alert_make(high, low, theirs(&s->alert), s->alert.len, theirs(&s->answer), s->answer.len);
-    ait_compared(s, "flags made", a, b);
+    loader_compared(s, "flags made", a, b);
     if (one_in(2) && s->alert.len) ours(&s->alert)[below((uint32_t)s->alert.len)] = (uint8_t)rnd();
     fill(&s->answer);
     lend_memory(s);
     a = dds_alert_read(ours(&s->alert), s->alert.len, ours(&s->answer), s->answer.len);
     b = model_alert_read(theirs(&s->alert), s->alert.len, theirs(&s->answer), s->answer.len);
-    ait_compared(s, "flags read", a, b);
+    loader_compared(s, "flags read", a, b);
 }
 
 /* bytes of few values, so that starts come about, whole and nearly so; some are put in */
@@ -73,7 +73,7 @@ static void both_find(lent_memory *s)
     lend_memory(s);
     a = dds_radio_find(ours(&s->received), s->received.len, ours(&s->answer), s->answer.len);
     b = model_radio_find(theirs(&s->received), s->received.len, theirs(&s->answer), s->answer.len);
-    if (ait_compared(s, "found", a, b) == 0) found += get(theirs(&s->answer) + 8);
+    if (loader_compared(s, "found", a, b) == 0) found += get(theirs(&s->answer) + 8);
 }
 
 static void some_lengths(lent_memory *s)
@@ -120,6 +120,6 @@ int main(int argc, char **argv)
     for (i = 0; i < 2; i++) {
         free(s.fields.base[i]); free(s.volume.base[i]); free(s.alert.base[i]); free(s.received.base[i]); free(s.answer.base[i]);
     }
-    printf("ait_random: %ld calls compared, %ld differ\n", calls, failures);
+    printf("loader_random: %ld calls compared, %ld differ\n", calls, failures);
     return failures != 0;
 }

@@ -403,7 +403,7 @@ static void long_slices(void)
     uint8_t *none = mmap(0, wide + 4096, PROT_NONE, MAP_PRIVATE | MAP_ANONYMOUS | MAP_NORESERVE, -1, 0);
     size_t which;
     int call;
-    if (none == MAP_FAILED) { printf("tracks: slices above 2^32 bytes skipped, no address space\n"); return; }
+    if (none == MAP_FAILED) { printf("track: slices above 2^32 bytes skipped, no address space\n"); return; }
     for (call = 0; call < 2; call++)
         for (which = 0; which < SLICES; which++) {
             desk d = made_track(6, 12);
@@ -430,5 +430,5 @@ int main(void)
     frames();
     fences();
     long_slices();
-    return finish("tracks");
+    return finish("track");
 }

@@ -338,7 +338,7 @@ static void long_slices(void)
     const size_t wide = (size_t)1 << 32;
     uint8_t *none = mmap(0, wide + 4096, PROT_NONE, MAP_PRIVATE | MAP_ANONYMOUS | MAP_NORESERVE, -1, 0);
     uint8_t fields[37] = { 0 }, volume[72] = { 0 }, answer[24];
-    if (none == MAP_FAILED) { printf("ait: slices above 2^32 bytes skipped, no address space\n"); return; }
+    if (none == MAP_FAILED) { printf("loader: slices above 2^32 bytes skipped, no address space\n"); return; }
     check(dds_volume_make(none, wide + 37, volume, 72, answer, 24) == 60, "long slices", "make, fields");
     check(dds_volume_make(fields, 37, none, wide + 72, answer, 24) == 60, "long slices", "make, volume");
     check(dds_volume_read(none, wide + 72, fields, 37, answer, 24) == 60, "long slices", "read, volume");
@@ -363,5 +363,5 @@ int main(void)
     slice_lengths();
     fences();
     long_slices();
-    return finish("ait");
+    return finish("loader");
 }
