@@ -1,47 +1,20 @@
--- What a writer's start and its three calls leave: one law an exit.
+-- What a record, a separator and an end leave: one law an exit.
 -- Assumes nothing.
-use mathlib.Core.Path.{_≡_, refl, sym, ap, _∙_}
-use mathlib.Core.Bool.{Bool, true, false, cond, _&&_}
+use mathlib.Core.Path.{_≡_, sym, ap, _∙_}
+use mathlib.Core.Bool.{Bool, true, false, _&&_}
 use mathlib.Core.List.{List, [], _∷_}
 use Prim.Native.Nat.{ℕ}
-use native.Mathlib.Omega.{arith}
-use lib.Dec.{eqb}
 use lib.ListN.{length}
-use Rattle.group.specs.State.{startRefusal}
-use Rattle.answer.specs.declared.Told.the-variants.{RefusedAt}
-use Rattle.answer.specs.Answer.{accepted, ifAccepted}
+use Rattle.answer.specs.Answer.{ifAccepted}
 use Rattle.laying.specs.declared.Writer.{Writer}
-use Rattle.laying.specs.Laying.{Desk, desk}
-use Rattle.writer.specs.declared.WriterStart.{WriterStart}
-use Rattle.writer.specs.declared.WriterStart.the-variants as start
+use Rattle.laying.specs.Laying.{desk}
 use Rattle.writer.specs.declared.WriteAnswer.{WriteAnswer}
-use Rattle.writer.specs.Calls.{Done, Meets, freshState, writerStartCall, startTold, Call, call, told, stateOf}
+use Rattle.writer.specs.Calls.{Done, Meets, Call, call, told, stateOf}
 use Rattle.writer.proofs.Theorems.{group-left}
 use Rattle.slices.specs.Call.{left, answerLength, lengthsKept, Tells, Refuses}
-use Rattle.slices.proofs.Calls.{lengths, went-on, answered, refused-before, let-by, none-lent, more-lent}
+use Rattle.slices.proofs.Calls.{lengths, went-on, refused-before, let-by, none-lent, more-lent}
 use Rattle.states.specs.States.{writerLength, b4Meant, writerOf, writerBytes, writerMeant}
-use Rattle.c_writer.specs.Calls.{ddsWriterStart, written}
-
--- A start that is accepted starts a fresh writer.
-pub started-fresh : (size first : ℕ) (s : Writer) → writerStartCall size first ≡ start.Started s → s ≡ freshState size first
-unfolding writerStartCall
-started-fresh size first s e = by (eqb (startRefusal size first) 0) e
-  where
-    by : (b : Bool) → cond b (start.Started (freshState size first)) (start.Refused (startRefusal size first)) ≡ start.Started s → s ≡ freshState size first
-    by true e = cc
-    by false e = let z : _≡_ {A = ℕ} 0 1 = cc in absurd (omega arith)
-
-module _ (size first : ℕ) (state answer : List ℕ) {answer′ : List ℕ} {refusal : ℕ} (kept : lengthsKept (length state) writerLength (length answer) ≡ true) where
-  pub started : (s : Writer) {state′ : List ℕ} → writerStartCall size first ≡ start.Started s → state′ ≡ writerBytes s → Tells accepted refusal answer′
-      → left refusal (state′ ∷ []) answer′ ≡ ddsWriterStart size first state answer
-  unfolding ddsWriterStart
-  started s e f t =
-      answered startTold _ _ answer kept (sym e) refl (ap (λ (l : List ℕ). l ∷ []) (f ∙ ap (λ (w : Writer). writerBytes w) (started-fresh size first s e))) t
-
-  pub not-started : (number : ℕ) → writerStartCall size first ≡ start.Refused number → Tells (RefusedAt number 0) refusal answer′
-      → left refusal (state ∷ []) answer′ ≡ ddsWriterStart size first state answer
-  unfolding ddsWriterStart
-  not-started number e t = answered startTold _ _ answer kept (sym e) refl refl t
+use Rattle.c_writer.specs.Calls.{written}
 
 module _ (state group : List ℕ) (warn : ℕ) (answer : List ℕ) {r : Bool} {after : List ℕ}
     (tests : Refuses (lengthsKept (length state) writerLength (length answer)) (writerMeant state && b4Meant warn) answer r after) where

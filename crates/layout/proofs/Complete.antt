@@ -3,12 +3,10 @@
 use Prim.Native.Nat.{ℕ, suc, _+_, _*_, _-_, _≤_}
 use native.Mathlib.Omega.{arith}
 use mathlib.Core.List.{List, [], _∷_, _++_, map}
-use mathlib.Core.Bool.{Bool, true, false, cond}
+use mathlib.Core.Bool.{true}
 use mathlib.Core.Path.{_≡_, refl, sym, ap, _∙_}
 use mathlib.Core.Logic.{_↔_}
 use lib.ListN.{length, length-append}
-use lib.Dec.{eqb}
-use borrow.Author.Tests.{eqb-true}
 use Rattle.group.specs.declared.Phase.{Phase}
 use Rattle.group.specs.declared.Phase.the-variants as phase
 use Rattle.group.specs.declared.Entry.{Entry}
@@ -18,7 +16,7 @@ use Rattle.group.specs.State.{sumKept, startRefusal}
 use Rattle.numbers.proofs.Tests.{within, is-within}
 use Rattle.reader.specs.declared.Reader.{Reader}
 use Rattle.entry.specs.declared.Stand.{Stand}
-use Rattle.entry.specs.declared.Stand.the-variants.{Free, Inside, Owed}
+use Rattle.entry.specs.declared.Stand.the-variants.{Free}
 use Rattle.reader.specs.declared.ReaderStart.the-variants as start
 use Rattle.reader.specs.declared.ReadAnswer.the-variants as answer
 use Rattle.entry.specs.Rules.{standAt}
@@ -41,16 +39,7 @@ use Rattle.layout.proofs.Grammar.Open.{o-free, o-inside, o-owed}
 use Rattle.layout.proofs.Decode.{SmallPiece, adds-up, entries-back}
 use Rattle.layout.proofs.Scanned.{Reaches, scan-pieces}
 
--- What a start's own answer tells: L and the first number are in range, and the state is the fresh one.
-pub begun-at : (size first : ℕ) (s : Reader) → readerStartCall size first ≡ start.Started s → (startRefusal size first ≡ 0) × (s ≡ fresh size first)
-unfolding readerStartCall
-begun-at size first s e = by (eqb (startRefusal size first) 0) refl e
-  where
-    by : (b : Bool) → eqb (startRefusal size first) 0 ≡ b → cond b (start.Started (fresh size first)) (start.Refused (startRefusal size first)) ≡ start.Started s
-        → (startRefusal size first ≡ 0) × (s ≡ fresh size first)
-    by true x h = (eqb-true (startRefusal size first) 0 x, cc)
-    by false x h = let z : _≡_ {A = ℕ} 0 1 = cc in absurd (omega arith)
-
+-- A start whose L and first number are in range begins with the fresh state.
 pub begins-at : (size first : ℕ) → sizeKept size ≡ true → numberKept first ≡ true → readerStartCall size first ≡ start.Started (fresh size first)
 unfolding readerStartCall startRefusal
 begins-at size first h k = rw (h, k)

@@ -12,6 +12,7 @@ use Rattle.reader.specs.declared.Reader.{Reader}
 use Rattle.reader.specs.declared.ReaderStart.the-variants as start
 use Rattle.reader.specs.Answer.{fresh, readerStartCall}
 use Rattle.laying.specs.Laying.{Desk}
+use Rattle.reader.proofs.Accepted.{begun-at}
 use Rattle.layout.specs.Items.{Item, Each}
 use Rattle.layout.specs.Layout.{Image, Lays}
 use Rattle.layout.specs.Accepting.{Accepts, Lent}
@@ -21,7 +22,7 @@ use Rattle.layout.specs.Writing.{Account, Wrote}
 use Rattle.layout.specs.WritingStated.{GivesBack, TotalsKept}
 use Rattle.layout.specs.BenchTable.{Case, shown, benchTable}
 use Rattle.layout.proofs.Grammar.{tailStand, tailSum}
-use Rattle.layout.proofs.Complete.{AcceptedTo, begun-at, complete-to, ends-with}
+use Rattle.layout.proofs.Complete.{AcceptedTo, complete-to, ends-with}
 use Rattle.layout.proofs.OnlyOne.{reading-is, one-reading, enough}
 use Rattle.layout.proofs.Sound.{lawful-from}
 use Rattle.layout.proofs.Order.{first-of, size-after, next-after, number-of, same-state, split, each-before, out-of-order}

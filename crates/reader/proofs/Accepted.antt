@@ -8,17 +8,18 @@ use native.Mathlib.Omega.{arith}
 use borrow.Author.Tests.{eq-eqb, ne-eqb, eqb-true, le-leb, leb-true, not-false}
 use lib.Dec.{eqb, leb}
 use lib.ListN.{length}
-use Rattle.group.specs.declared.Phase.the-variants as phase
 use Rattle.group.specs.Sizes.{lastNumber, informationLength, entryLength, entriesKept, entryOffset}
 use Rattle.group.specs.Entries.{entriesBelow}
+use Rattle.group.specs.State.{startRefusal}
 use Rattle.numbers.proofs.Tests.{both, and, passed}
 use Rattle.group.proofs.StateLaws.{Run, run-of-sound, sound-of-run, sum-small}
 use Rattle.reader.specs.declared.Reader.{Reader}
 use Rattle.entry.specs.declared.Cursor.{Cursor}
 use Rattle.entry.specs.declared.ScanEnd.{ScanEnd}
 use Rattle.entry.specs.declared.ScanEnd.the-variants as scanned
+use Rattle.reader.specs.declared.ReaderStart.the-variants as start
 use Rattle.reader.specs.declared.ReadAnswer.the-variants as answer
-use Rattle.reader.specs.Answer.{sound, lengthKept, nextIs, rowsFit, readRefusal, opening, closing, groupScan, answered, readCall}
+use Rattle.reader.specs.Answer.{fresh, readerStartCall, sound, lengthKept, nextIs, rowsFit, readRefusal, opening, closing, groupScan, answered, readCall}
 use Rattle.entry.specs.Bounds.{Cut, Bounded, Within}
 use Rattle.entry.proofs.Scans.{within}
 use Rattle.reader.proofs.Refusals.{none}
@@ -109,3 +110,13 @@ module _ (s t : Reader) (group : List ℕ) (number n room : ℕ) where
   pub data-within : readCall s group number n room ≡ answer.Accepted t → Within (entryOffset (s .size) n) 0 (entriesBelow group (s .size - informationLength) n)
   unfolding groupScan
   data-within e = let p = accepted e in within _ _ _ 1 (opening s) (p .end) (begins (p .ready)) (p .reached)
+
+-- What a start's own answer tells: L and the first number are in range, and the state is the fresh one.
+pub begun-at : (size first : ℕ) (s : Reader) → readerStartCall size first ≡ start.Started s → (startRefusal size first ≡ 0) × (s ≡ fresh size first)
+unfolding readerStartCall
+begun-at size first s e = by (eqb (startRefusal size first) 0) refl e
+  where
+    by : (b : Bool) → eqb (startRefusal size first) 0 ≡ b → cond b (start.Started (fresh size first)) (start.Refused (startRefusal size first)) ≡ start.Started s
+        → (startRefusal size first ≡ 0) × (s ≡ fresh size first)
+    by true x h = (eqb-true (startRefusal size first) 0 x, cc)
+    by false x h = let z : _≡_ {A = ℕ} 0 1 = cc in absurd (omega arith)

@@ -12,7 +12,7 @@ use Rattle.numbers.specs.Numbers.{inBytes}
 use Rattle.numbers.proofs.Tests.{both}
 use Rattle.answer.specs.declared.Told.{Told}
 use Rattle.answer.specs.declared.Told.the-variants.{Accepted, RefusedAt}
-use Rattle.answer.specs.Answer.{numbersTold, refusalTold, ifAccepted}
+use Rattle.answer.specs.Answer.{accepted, numbersTold, refusalTold, ifAccepted}
 use Rattle.slices.specs.Call.{Left, left, slice, answerLength, lengthsKept, ofMeaning, called, Tells, Refuses}
 
 -- Two outcomes that meet a call's contract, which is that what it leaves is so and so, coincide: the returned number and every byte
@@ -43,6 +43,15 @@ pub answered : {A : Type 0} (told : A → Told) {kept : Bool} {a b : A} {t : Tol
     → kept ≡ true → a ≡ b → t ≡ told a → lent ≡ ifAccepted (told a) new old → Tells t refusal after → left refusal lent after ≡ called kept (told b) new old answer
 answered {A} told {kept} {a} new old answer k e f l t =
     went-on (told a) new old answer k l (rw f at t) ∙ ap (λ (x : A). called kept (told x) new old answer) e
+
+-- A start, which may write the state alone: accepted and refused.
+pub started : {kept : Bool} {told : Told} (new old answer : List ℕ) {state after : List ℕ} {refusal : ℕ}
+    → kept ≡ true → told ≡ accepted → state ≡ new → Tells accepted refusal after → left refusal (state ∷ []) after ≡ called kept told (new ∷ []) (old ∷ []) answer
+started new old answer k e f t = rw e (went-on accepted (new ∷ []) (old ∷ []) answer k (ap (λ (l : List ℕ). l ∷ []) f) t)
+
+pub not-started : {kept : Bool} {told : Told} (number : ℕ) (new old answer : List ℕ) {after : List ℕ} {refusal : ℕ}
+    → kept ≡ true → told ≡ RefusedAt number 0 → Tells (RefusedAt number 0) refusal after → left refusal (old ∷ []) after ≡ called kept told (new ∷ []) (old ∷ []) answer
+not-started number new old answer k e t = rw e (went-on (RefusedAt number 0) (new ∷ []) (old ∷ []) answer k refl t)
 
 -- The tests before a call, where they refuse it and where they do not.
 pub refused-before : (kept meant : Bool) (told : Told) (new old : List (List ℕ)) (answer : List ℕ) {r : Bool} {after : List ℕ}

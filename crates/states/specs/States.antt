@@ -1,7 +1,7 @@
 -- Document 01, "What the box holds": "a state, an answer and rows are lent byte slices, each number four bytes, most
 -- significant first". The length and the fields of a state slice, from the slice to a state and back.
 -- Assumes nothing.
-use Prim.Native.Nat.{ℕ, _*_}
+use Prim.Native.Nat.{ℕ}
 use mathlib.Core.List.{List, [], _∷_}
 use mathlib.Core.Bool.{Bool, true, false, cond, _&&_}
 use lib.Dec.{eqb, leb}

@@ -5,7 +5,7 @@ ghost use mathlib.Core.Bool.{_&&_};
 ghost use Prim.Native.Nat.{_+_, _≤_};
 ghost use lib.ListN.{length};
 ghost use Rattle.numbers.specs.Store.{put};
-ghost use Rattle.numbers.specs.Numbers.{numberAt, bytesOf, inBytes};
+ghost use Rattle.numbers.specs.Numbers.{numberAt, bytesOf};
 ghost use Rattle.states.specs.States.{readerLength, writerLength, phaseNumber, phaseOf, b4Number, b4Meant};
 ghost use Rattle.states.specs.States.{readerOf, readerBytes, readerMeant, writerOf, writerBytes, writerMeant};
 use group::Phase;

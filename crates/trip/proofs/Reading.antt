@@ -22,7 +22,7 @@ use Rattle.reader.specs.Answer.{sound, readerStartCall, readCall, groupRows, ro
 use Rattle.reader.proofs.Sound.{sound-again}
 use Rattle.layout.specs.Layout.{Image}
 use Rattle.layout.specs.Accepting.{Accepts, Lent, lentTo}
-use Rattle.layout.proofs.Complete.{begun-at}
+use Rattle.reader.proofs.Accepted.{begun-at}
 use Rattle.slices.specs.Call.{Left, left, answerLength, lengthsKept, called}
 use Rattle.states.specs.States.{readerLength, phaseNumber, phaseMeant, readerOf, readerNumbers, readerMeant}
 use Rattle.c_reader.specs.Calls.{ddsReaderStart, ddsRead}

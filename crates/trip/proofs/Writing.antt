@@ -21,7 +21,7 @@ use Rattle.sound.specs.State.{writerSound}
 use Rattle.laying.specs.Laying.{Desk, desk}
 use Rattle.writer.specs.Calls.{Done, done, freshState, writerStartCall, startTold, recordCall, separatorCall, endCall, Call, call, refusalOf, told, stateOf}
 use Rattle.writer.specs.Calls.Call.{aRecord, aSeparator, anEnd}
-use Rattle.writer.proofs.Theorems.{refusal-told, refused-stays, sound-after, sound-start}
+use Rattle.writer.proofs.Theorems.{refusal-told, refused-stays, sound-after, begun-at as started-at, sound-start}
 use Rattle.layout.specs.Layout.{Image}
 use Rattle.layout.specs.Writing.{Account, noted, AsAsked, imageOf, Wrote}
 use Rattle.answer.specs.Answer.{numbersTold, refusalTold, ifAccepted}
@@ -30,7 +30,6 @@ use Rattle.slices.proofs.Calls.{let-through, leaves}
 use Rattle.states.specs.States.{writerLength, phaseNumber, phaseMeant, b4Number, b4Meant, writerOf, writerNumbers, writerBytes, writerMeant}
 use Rattle.c_writer.specs.Calls.{ddsWriterStart, written, writing, ddsRecord, ddsSeparator, ddsEnd, writerLeft, groupLeft}
 use Rattle.states.proofs.StateLaws.{writer-of-bytes, sound-writer-fits}
-use Rattle.c_writer.proofs.Laws.{started-fresh}
 use Rattle.trip.specs.ThroughC.{callC, phaseSeen, outcomeSeen, numberSeen, entriesSeen, finishedSeen, closedSeen, WroteC}
 use Rattle.trip.specs.Stated.{Written}
 use Rattle.trip.proofs.Told.{Tells, TellsStart, call-tells, start-tells}
@@ -154,7 +153,7 @@ Begun size first o = BegunAt size first (writerLeft o)
 begun-start : (size first : ℕ) (state : List ℕ) (a : WriterStart) → writerStartCall size first ≡ a → TellsStart a → refusalTold (startTold a) ≡ 0 →
     BegunAt size first (ifAccepted (startTold a) (writerBytes (freshState size first)) state)
 begun-start size first state (start.Started s) is t e =
-    let same = started-fresh size first s is in
+    let same = started-at size first s is .1 in
     let h : writerSound (freshState size first) ≡ true = ap writerSound (sym same) ∙ sound-start size first s is in
     record {
       starts = is ∙ ap start.Started (same ∙ sym (back (freshState size first) h));

@@ -20,7 +20,7 @@ use Rattle.c_reader.specs.Calls.{ddsRead, readerLeft, rowsRead}
 use Rattle.c_writer.specs.Calls.{ddsWriterStart, ddsRecord, ddsSeparator, ddsEnd, writerLeft, groupLeft}
 
 -- A call through its slices: the state, the group and the answer. Whether it sets b4 is the number 0 or 1.
-unfoldable pub callC : Call → List ℕ → List ℕ → List ℕ → Left
+unfoldable pub callC : Call → (state group answer : List ℕ) → Left
 callC (aRecord bytes warn) state group answer = ddsRecord state group bytes (b4Number warn) answer
 callC (aSeparator value warn) state group answer = ddsSeparator state group value (b4Number warn) answer
 callC (anEnd warn) state group answer = ddsEnd state group (b4Number warn) answer

@@ -93,33 +93,36 @@ sound-after c w = by (outcome c w)
     by (refused h) e = absurd (h e)
     by (accepted e l) z = is-sound _ (l .sound)
 
--- "A writer starts the same way": with a sound state.
-pub sound-start : (size first : ℕ) (s : Writer) → writerStartCall size first ≡ start.Started s → writerSound s ≡ true
+-- "A writer starts the same way": a start that is accepted starts a fresh writer, with a sound state.
+pub begun-at : (size first : ℕ) (s : Writer) → writerStartCall size first ≡ start.Started s → (startRefusal size first ≡ 0) × (s ≡ freshState size first)
 unfolding writerStartCall
-sound-start size first s = by (eqb (startRefusal size first) 0) refl
+begun-at size first s e = by (eqb (startRefusal size first) 0) refl e
   where
-    fresh : startRefusal size first ≡ 0 → writerSound (freshState size first) ≡ true
-    fresh e =
-        let l = within leastSize size standardSize (started size first e .0) in
-        let n = within 1 first lastNumber (started size first e .1) in
-        is-sound (freshState size first)
-        (record {
-          run = record { least = l .0; most = l .1; some = n .0; number = omega arith; kept = refl };
-          room = λ h. omega arith;
-          empty = λ h. absurd (true≢false h);
-          more = λ h. absurd (true≢false (sym h));
-          done = λ h. refl;
-          held = λ h. h;
-          clear = λ h. refl;
-          spent = λ h. (refl, refl);
-        })
+    by : (b : Bool) → eqb (startRefusal size first) 0 ≡ b → cond b (start.Started (freshState size first)) (start.Refused (startRefusal size first)) ≡ start.Started s
+        → (startRefusal size first ≡ 0) × (s ≡ freshState size first)
+    by true x h = (eqb-true (startRefusal size first) 0 x, cc)
+    by false x h = let z : _≡_ {A = ℕ} 0 1 = cc in absurd (omega arith)
 
-    by : (p : Bool) → eqb (startRefusal size first) 0 ≡ p → cond p (start.Started (freshState size first)) (start.Refused (startRefusal size first)) ≡ start.Started s
-        → writerSound s ≡ true
-    by true e f =
-        let same : freshState size first ≡ s = cc in
-        subst (λ (v : Writer). writerSound v ≡ true) same (fresh (eqb-true _ 0 e))
-    by false e f = let z : _≡_ {A = ℕ} 0 1 = cc in absurd (omega arith)
+sound-fresh : (size first : ℕ) → startRefusal size first ≡ 0 → writerSound (freshState size first) ≡ true
+sound-fresh size first e =
+    let l = within leastSize size standardSize (started size first e .0) in
+    let n = within 1 first lastNumber (started size first e .1) in
+    is-sound (freshState size first)
+    (record {
+      run = record { least = l .0; most = l .1; some = n .0; number = omega arith; kept = refl };
+      room = λ h. omega arith;
+      empty = λ h. absurd (true≢false h);
+      more = λ h. absurd (true≢false (sym h));
+      done = λ h. refl;
+      held = λ h. h;
+      clear = λ h. refl;
+      spent = λ h. (refl, refl);
+    })
+
+pub sound-start : (size first : ℕ) (s : Writer) → writerStartCall size first ≡ start.Started s → writerSound s ≡ true
+sound-start size first s e =
+    let b = begun-at size first s e in
+    subst (λ (v : Writer). writerSound v ≡ true) (sym (b .1)) (sound-fresh size first (b .0))
 
 -- "The room is a signed number. It is −4 or more": in every sound state, the free ones with them.
 pub room-from-minus-four : (s : Writer) → writerSound s ≡ true → leZ (negsuc 3) (room s) ≡ true

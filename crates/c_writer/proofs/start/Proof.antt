@@ -1,14 +1,17 @@
 -- `start` meets its contract: a length, or what the start answers. Assumes nothing.
 use borrow.Author.Needs.{needs}
-use mathlib.Core.Path.{_≡_, sym, _∙_}
+use mathlib.Core.Path.{_≡_, sym, ap, _∙_}
 use mathlib.Core.Bool.{true}
 use lib.ListN.{length}
 use Rattle.numbers.proofs.Tests.{fails, holds}
+use Rattle.laying.specs.declared.Writer.{Writer}
+use Rattle.writer.specs.declared.WriterStart.{WriterStart}
+use Rattle.writer.specs.Calls.{startTold}
+use Rattle.writer.proofs.Theorems.{begun-at}
 use Rattle.slices.specs.Call.{answerLength, lengthsKept}
-use Rattle.slices.proofs.Calls.{lengths, stopped}
-use Rattle.states.specs.States.{writerLength}
+use Rattle.slices.proofs.Calls as calls
+use Rattle.states.specs.States.{writerLength, writerBytes}
 use Rattle.c_writer.specs.Calls.{ddsWriterStart}
-use Rattle.c_writer.proofs.Laws as laws
 use Rattle.c_writer.proofs.start.Statement.{statement}
 use Rattle.c_writer.proofs.start.Tie as tie
 
@@ -17,26 +20,29 @@ kept : (c : tie.Else1) → lengthsKept (length (c .before .before .before .befor
 kept c = holds (c .before .lengths-kept .ensures) (c .if1 .left)
 
 long : (c : tie.Else1) → (length (c .before .before .before .before .args .state .now) ≡ writerLength) × (length (c .before .before .before .before .args .answer .now) ≡ answerLength)
-long c = lengths _ _ _ (kept c)
+long c = calls.lengths _ _ _ (kept c)
 
 by-length : tie.Need-returns
 unfolding ddsWriterStart
-by-length c = stopped _ _ _ _ (fails (c .before .lengths-kept .ensures) (c .if1 .taken))
+by-length c = calls.stopped _ _ _ _ (fails (c .before .lengths-kept .ensures) (c .if1 .taken))
 
 started : tie.Need-returns-2
+unfolding ddsWriterStart
 started c =
     let t = c .before .before in
     let p = t .before .before .before .before in
     let m = p .before .before .before in
     let s = m .before .before in
-    laws.started _ _ _ _ (kept (s .before)) _ (sym (s .start .ensures) ∙ m .start2 .given .1) (p .put-writer .ensures) (t .tell .ensures)
+    let e = sym (s .start .ensures) ∙ m .start2 .given .1 in
+    calls.started _ _ _ (kept (s .before)) (ap (λ (a : WriterStart). startTold a) e) (p .put-writer .ensures ∙ ap (λ (r : Writer). writerBytes r) (begun-at _ _ _ e .1)) (t .tell .ensures)
 
 refused : tie.Need-returns-3
+unfolding ddsWriterStart
 refused c =
     let t = c .before .before in
     let m = t .before .before .before in
     let s = m .before .before in
-    laws.not-started _ _ _ _ (kept (s .before)) _ (sym (s .start .ensures) ∙ m .start3 .given .1) (t .tell2 .ensures)
+    calls.not-started _ _ _ _ (kept (s .before)) (ap (λ (a : WriterStart). startTold a) (sym (s .start .ensures) ∙ m .start3 .given .1)) (t .tell2 .ensures)
 
 pub start-spec : {M : Type 1} → statement M
 start-spec =
