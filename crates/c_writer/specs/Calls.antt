@@ -5,8 +5,9 @@ use Prim.Native.Nat.{ℕ}
 use mathlib.Core.List.{List, [], _∷_}
 use mathlib.Core.Bool.{Bool, _&&_}
 use lib.ListN.{length}
+use Rattle.laying.specs.Start.{freshState, writerStartCall}
 use Rattle.laying.specs.Laying.{Desk, desk}
-use Rattle.writer.specs.Calls.{Done, freshState, writerStartCall, startTold, recordCall, separatorCall, endCall, told, stateOf}
+use Rattle.writer.specs.Calls.{Done, startTold, recordCall, separatorCall, endCall, told, stateOf}
 use Rattle.slices.specs.Call.{Left, slice, lengthsKept, ofMeaning, called}
 use Rattle.states.specs.States.{writerLength, b4Set, b4Meant, writerOf, writerBytes, writerMeant}
 

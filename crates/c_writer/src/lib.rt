@@ -9,8 +9,9 @@ ghost use Rattle.slices.specs.Call.{left, answerLength, lengthsKept, Tells, Ref
 ghost use Rattle.states.specs.States.{writerLength, b4Meant, writerBytes, writerMeant};
 ghost use Rattle.c_writer.specs.Calls.{ddsWriterStart, ddsRecord, ddsSeparator, ddsEnd};
 use answer::Told;
+use laying::Writer;
+use laying::WriterStart;
 use writer::WriteAnswer;
-use writer::WriterStart;
 
 // A fresh writer, into the state slice.
 pub fn start(size: u32, first: u32, state: &mut [u8], answer: &mut [u8]) -> u32
@@ -19,7 +20,7 @@ pub fn start(size: u32, first: u32, state: &mut [u8], answer: &mut [u8]) -> u32
     if !slices::lengths_kept(state.len(), states::WRITER_LENGTH, answer.len()) {
         return 1;
     }
-    let start = writer::start(size, first);
+    let start = Writer::start(size, first);
     match start {
         WriterStart::Started(writer) => {
             states::put_writer(state, writer);

@@ -1,3 +1,4 @@
--- Laws of signed numbers and of the room, which the proofs of this crate share and the crates above cite.
+-- Laws of the start, of signed numbers and of the room, which the proofs of this crate share and the crates above cite.
+pub mod Starts
 pub mod SignedLaws
 pub mod RoomLaws

@@ -1,5 +1,6 @@
--- What a reader of this crate must believe, in document 01's order: the room, and what is laid. Bounds serves only the
+-- What a reader of this crate must believe, in document 01's order: the start, the room, and what is laid. Bounds serves only the
 -- contracts of helpers, and proofs.
+pub mod Start
 pub mod Room
 pub mod Laying
 pub mod Bounds

@@ -3,6 +3,7 @@
 -- Assumes nothing.
 use mathlib.Core.Path.{_≡_, refl}
 use mathlib.Core.List.{map}
+use Rattle.laying.specs.Start.{writerStartCall}
 use Rattle.numbers.specs.Store.{put}
 use Rattle.numbers.specs.Numbers.{numberAt, bytesOf}
 use Rattle.group.specs.Entries.{entryAt, entryBytes, entriesBelow}
@@ -15,7 +16,7 @@ use Rattle.reader.specs.Answer.{readerStartCall, readRefusal, groupScan, readCa
 use Rattle.sound.specs.State.{roomKept, emptyKept, restKept, dataKept, clearKept, spentKept, writerSound, recordRefusal, separatorRefusal, endRefusal}
 use Rattle.laying.specs.Room.{room, fitOf}
 use Rattle.laying.specs.Laying.{layEntry, layData, layPart, moved, laySkip, zeroGap, shut, warnState, payOwed, ready}
-use Rattle.writer.specs.Calls.{finished, closed, orRefused, writerStartCall, byFit, recordFree, middle, last, recordInside, recordAccepted, recordCall, separatorAccepted, separatorCall, endAccepted, endCall, call}
+use Rattle.writer.specs.Calls.{finished, closed, orRefused, byFit, recordFree, middle, last, recordInside, recordAccepted, recordCall, separatorAccepted, separatorCall, endAccepted, endCall, call}
 use Rattle.layout.specs.BenchTable.{Case, shown, shownFrom, answerTo, readAll, readTo, deskAfter, closedBy, next, toldAll, closedAll, deskLeft, from, benchTable}
 
 -- All that must open for a case to be computed.

@@ -3,11 +3,10 @@
 use Prim.Native.Nat.{ℕ, _+_, _≤_}
 use native.Mathlib.Omega.{arith}
 use mathlib.Core.List.{List, [], _∷_, _++_, map, append-nil, append-assoc}
-use mathlib.Core.Bool.{Bool, true, false, cond}
 use mathlib.Core.Path.{_≡_, refl, sym, ap, _∙_, subst}
 use lib.ListN.{length, take-append-drop}
-use lib.Dec.{eqb}
-use borrow.Author.Tests.{eqb-true}
+use Rattle.laying.proofs.Starts.{begun-at}
+use Rattle.laying.specs.Start.{freshState, writerStartCall}
 use Rattle.group.specs.declared.Phase.{Phase}
 use Rattle.group.specs.declared.Phase.the-variants as phase
 use Rattle.group.specs.Sizes.{leastSize, standardSize, informationLength}
@@ -18,11 +17,11 @@ use Rattle.entry.specs.declared.Stand.the-variants as stand
 use Rattle.entry.specs.Rules.{standAt}
 use Rattle.reader.specs.Answer.{fresh}
 use Rattle.laying.specs.declared.Writer.{Writer}
-use Rattle.writer.specs.declared.WriterStart.the-variants as start
+use Rattle.laying.specs.declared.WriterStart.the-variants as start
 use Rattle.writer.specs.declared.WriteAnswer.{WriteAnswer}
 use Rattle.writer.specs.declared.WriteAnswer.the-variants.{Finished, Closed, Refused}
 use Rattle.laying.specs.Laying.{Desk, desk}
-use Rattle.writer.specs.Calls.{Call, call, freshState, writerStartCall}
+use Rattle.writer.specs.Calls.{Call, call}
 use Rattle.layout.specs.Items.{Piece, grouped}
 use Rattle.layout.specs.Items.Token.{piece}
 use Rattle.layout.specs.Layout.{Image, Run, Lays}
@@ -41,19 +40,9 @@ use Rattle.layout.proofs.Sound.{lays-run}
 use Rattle.layout.proofs.Buffer.{buffered-fresh}
 use Rattle.layout.proofs.Accounts.{Hand, Kept, Said, after-call, AsGiven, as-given}
 
--- What the start call's answer says: it was not refused, and the state is the fresh one.
-start-said : (size first : ℕ) (s : Writer) → writerStartCall size first ≡ start.Started s → (startRefusal size first ≡ 0) × (freshState size first ≡ s)
-unfolding writerStartCall
-start-said size first s = by (eqb (startRefusal size first) 0) refl
-  where
-    by : (p : Bool) → eqb (startRefusal size first) 0 ≡ p → cond p (start.Started (freshState size first)) (start.Refused (startRefusal size first)) ≡ start.Started s
-        → (startRefusal size first ≡ 0) × (freshState size first ≡ s)
-    by true e f = (eqb-true _ 0 e, cc)
-    by false e f = let z : _≡_ {A = ℕ} 0 1 = cc in absurd (omega arith)
-
 -- A writing was started.
 pub wrote-started : {size first : ℕ} {w : Desk} {run : List Image} {closed now : Account} → Wrote size first w run closed now → startRefusal size first ≡ 0
-wrote-started {size} {first} (begins {s} e l) = start-said size first s e .0
+wrote-started {size} {first} (begins {s} e l) = begun-at size first s e .0
 wrote-started (goes-on c x q e) = wrote-started x
 wrote-started (closes c information g x q e i j) = wrote-started x
 wrote-started (refused c x e) = wrote-started x
@@ -94,9 +83,9 @@ kept-fresh {size} {first} h e =
 
 kept-start : {size first : ℕ} {s : Writer} {g : List ℕ} → writerStartCall size first ≡ start.Started s → length g ≡ size → Kept size first (desk s g) [] blank
 kept-start {size} {first} {s} {g} e l =
-    let (none, same) = start-said size first s e in
+    let (none, same) = begun-at size first s e in
     let (least, most) = within leastSize size standardSize (started size first none .0) in
-    subst (λ (t : Writer). Kept size first (desk t g) [] blank) same (kept-fresh least l)
+    subst (λ (t : Writer). Kept size first (desk t g) [] blank) (sym same) (kept-fresh least l)
 
 kept : {size first : ℕ} {w : Desk} {run : List Image} {closed now : Account} → Wrote size first w run closed now → Kept size first w run now
 kept (begins e l) = kept-start e l
@@ -138,7 +127,7 @@ whole {size} {first} {w} {run} {a} k e =
     }
 
 started-empty : (size first : ℕ) {s : Writer} → writerStartCall size first ≡ start.Started s → s .entries ≡ 0
-started-empty size first {s} e = sym (ap (λ (t : Writer). t .entries) (start-said size first s e .1))
+started-empty size first {s} e = ap (λ (t : Writer). t .entries) (begun-at size first s e .1)
 
 pub at-close : {size first : ℕ} {w : Desk} {run : List Image} {closed now : Account} → Wrote size first w run closed now → AtClose size first run closed
 at-close {size} {first} (begins {g} e l) = whole (kept-start {g = g} e l) (started-empty size first e)

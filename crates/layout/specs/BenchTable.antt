@@ -5,6 +5,7 @@ use Prim.Native.Nat.{ℕ, zero, suc, _+_, _*_}
 use mathlib.Core.List.{List, [], _∷_, _++_}
 use mathlib.Core.Bool.{true, false}
 use lib.ListN.{length, replicate}
+use Rattle.laying.specs.Start.{freshState, writerStartCall}
 use Rattle.answer.specs.Answer.{numbersTold}
 use Rattle.group.specs.declared.Phase.the-variants as phase
 use Rattle.reader.specs.declared.Reader.{Reader}
@@ -12,13 +13,13 @@ use Rattle.reader.specs.declared.ReaderStart.{ReaderStart}
 use Rattle.reader.specs.declared.ReaderStart.the-variants as readerStart
 use Rattle.reader.specs.declared.ReadAnswer.{ReadAnswer}
 use Rattle.reader.specs.Answer as read
-use Rattle.writer.specs.declared.WriterStart.{WriterStart}
-use Rattle.writer.specs.declared.WriterStart.the-variants as writerStart
+use Rattle.laying.specs.declared.WriterStart.{WriterStart}
+use Rattle.laying.specs.declared.WriterStart.the-variants as writerStart
 use Rattle.writer.specs.declared.WriteAnswer.{WriteAnswer}
 use Rattle.writer.specs.declared.WriteAnswer.the-variants.{Finished, Closed, Refused}
 use Rattle.laying.specs.Laying.{Desk, desk}
 use Rattle.writer.specs.Calls as write
-use Rattle.writer.specs.Calls.{Call, call, freshState}
+use Rattle.writer.specs.Calls.{Call, call}
 use Rattle.writer.specs.Calls.Call.{aRecord, aSeparator, anEnd}
 use Rattle.layout.specs.Layout.{Image}
 
@@ -112,7 +113,7 @@ shownFrom (reading run) answer (readerStart.Started s) = readings (readAll s run
 shownFrom (reading run) answer (readerStart.Refused refusal) = notStarted
 
 unfoldable pub shown : Given → Shown
-shown given = shownFrom given (write.writerStartCall size first) (read.readerStartCall size first)
+shown given = shownFrom given (writerStartCall size first) (read.readerStartCall size first)
 
 -- The bytes of a record from its k-th on: each is its place in the record, so that a break shows.
 unfoldable pub from : ℕ → ℕ → List ℕ

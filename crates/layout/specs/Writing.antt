@@ -4,15 +4,16 @@ use Prim.Native.Nat.{ℕ, _-_}
 use mathlib.Core.List.{List, [], _∷_, _++_}
 use mathlib.Core.Path.{_≡_}
 use lib.ListN.{length, take, drop}
+use Rattle.laying.specs.Start.{writerStartCall}
 use Rattle.group.specs.declared.Phase.{Phase}
 use Rattle.group.specs.declared.Phase.the-variants.{Free, Inside, Owed}
 use Rattle.group.specs.Sizes.{informationLength}
 use Rattle.laying.specs.declared.Writer.{Writer}
-use Rattle.writer.specs.declared.WriterStart.the-variants as start
+use Rattle.laying.specs.declared.WriterStart.the-variants as start
 use Rattle.writer.specs.declared.WriteAnswer.{WriteAnswer}
 use Rattle.writer.specs.declared.WriteAnswer.the-variants.{Finished, Closed, Refused}
 use Rattle.laying.specs.Laying.{Desk, desk}
-use Rattle.writer.specs.Calls.{Call, call, writerStartCall}
+use Rattle.writer.specs.Calls.{Call, call}
 use Rattle.writer.specs.Calls.Call.{aRecord, aSeparator, anEnd}
 use Rattle.layout.specs.Items.{Item}
 use Rattle.layout.specs.Items.Item.{recordItem, separatorItem}

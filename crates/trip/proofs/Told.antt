@@ -8,18 +8,19 @@ use native.Mathlib.Omega.{arith}
 use lib.Dec.{eqb}
 use lib.ListN.{length, take}
 use borrow.Author.Tests.{eqb-true, eqb-false}
+use Rattle.laying.specs.Start.{freshState, writerStartCall}
 use Rattle.group.specs.declared.Kind.the-variants as kind
 use Rattle.group.specs.declared.Phase.{Phase}
 use Rattle.group.specs.declared.Phase.the-variants.{Free, Inside, Owed}
 use Rattle.group.specs.Sizes.{longestRecord}
 use Rattle.group.specs.State.{startRefusal}
 use Rattle.laying.specs.declared.Writer.{Writer}
-use Rattle.writer.specs.declared.WriterStart.{WriterStart}
-use Rattle.writer.specs.declared.WriterStart.the-variants as start
+use Rattle.laying.specs.declared.WriterStart.{WriterStart}
+use Rattle.laying.specs.declared.WriterStart.the-variants as start
 use Rattle.writer.specs.declared.WriteAnswer.{WriteAnswer}
 use Rattle.writer.specs.declared.WriteAnswer.the-variants.{Finished, Closed, Refused}
 use Rattle.laying.specs.Laying.{Desk, desk, layEntry, layData, layPart, moved, warnState, payOwed, ready}
-use Rattle.writer.specs.Calls.{Done, done, finished, closed, orRefused, freshState, writerStartCall, recordAccepted, recordCall, separatorAccepted, separatorCall, endAccepted, endCall, Call, call}
+use Rattle.writer.specs.Calls.{Done, done, finished, closed, orRefused, recordAccepted, recordCall, separatorAccepted, separatorCall, endAccepted, endCall, Call, call}
 use Rattle.writer.specs.Calls.Call.{aRecord, aSeparator, anEnd}
 use Rattle.sound.proofs.SoundLaws.{Sound}
 use Rattle.sound.proofs.Accepted.{Offered, fits, record-accepted, separator-accepted, end-accepted}

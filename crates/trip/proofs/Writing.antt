@@ -7,21 +7,23 @@ use Prim.Native.Nat.{ℕ, _^_, _<_}
 use native.Mathlib.Omega.{arith}
 use lib.Dec.{eqb}
 use lib.ListN.{length}
+use Rattle.laying.proofs.Starts.{begun-at as started-at}
+use Rattle.laying.specs.Start.{freshState, writerStartCall}
 use Rattle.numbers.proofs.InBytes.{length-in-bytes, field-of-bytes}
 use Rattle.numbers.specs.Numbers.{inBytes}
 use Rattle.group.specs.declared.Phase.{Phase}
 use Rattle.group.specs.declared.Phase.the-variants.{Free, Inside, Owed}
 use Rattle.group.specs.Sizes.{informationLength}
 use Rattle.laying.specs.declared.Writer.{Writer}
-use Rattle.writer.specs.declared.WriterStart.{WriterStart}
-use Rattle.writer.specs.declared.WriterStart.the-variants as start
+use Rattle.laying.specs.declared.WriterStart.{WriterStart}
+use Rattle.laying.specs.declared.WriterStart.the-variants as start
 use Rattle.writer.specs.declared.WriteAnswer.{WriteAnswer}
 use Rattle.writer.specs.declared.WriteAnswer.the-variants.{Finished, Closed, Refused}
 use Rattle.sound.specs.State.{writerSound}
 use Rattle.laying.specs.Laying.{Desk, desk}
-use Rattle.writer.specs.Calls.{Done, done, freshState, writerStartCall, startTold, recordCall, separatorCall, endCall, Call, call, refusalOf, told, stateOf}
+use Rattle.writer.specs.Calls.{Done, done, startTold, recordCall, separatorCall, endCall, Call, call, refusalOf, told, stateOf}
 use Rattle.writer.specs.Calls.Call.{aRecord, aSeparator, anEnd}
-use Rattle.writer.proofs.Theorems.{refusal-told, refused-stays, sound-after, begun-at as started-at, sound-start}
+use Rattle.writer.proofs.Theorems.{refusal-told, refused-stays, sound-after, sound-start}
 use Rattle.layout.specs.Layout.{Image}
 use Rattle.layout.specs.Writing.{Account, noted, AsAsked, imageOf, Wrote}
 use Rattle.answer.specs.Answer.{numbersTold, refusalTold, ifAccepted}

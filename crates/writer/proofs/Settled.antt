@@ -6,18 +6,14 @@ use mathlib.Core.List.{List}
 use Prim.Native.Nat.{ℕ}
 use Rattle.laying.specs.declared.Writer.{Writer}
 use Rattle.laying.specs.Laying.{desk}
-use Rattle.writer.specs.declared.WriterStart.{WriterStart}
 use Rattle.writer.specs.declared.WriteAnswer.{WriteAnswer}
-use Rattle.writer.specs.Calls.{Done, Meets, writerStartCall, recordCall, separatorCall, endCall}
+use Rattle.writer.specs.Calls.{Done, Meets, recordCall, separatorCall, endCall}
 
 same : {A : Type 0} {x a b : A} → a ≡ x → b ≡ x → a ≡ b
 same e f = e ∙ sym f
 
 settled : {d : Done} {r t : WriteAnswer} {h k : List ℕ} → Meets d r h → Meets d t k → (r ≡ t) × (h ≡ k)
 settled m n = (same (m .answer) (n .answer), same (m .group) (n .group))
-
-pub start-settled : (size first : ℕ) {r t : WriterStart} → r ≡ writerStartCall size first → t ≡ writerStartCall size first → r ≡ t
-start-settled size first e f = same e f
 
 pub record-settled : (bytes : List ℕ) (warn : Bool) (s : Writer) (g : List ℕ) {r t : WriteAnswer} {h k : List ℕ}
     → Meets (recordCall bytes warn (desk s g)) r h → Meets (recordCall bytes warn (desk s g)) t k → (r ≡ t) × (h ≡ k)

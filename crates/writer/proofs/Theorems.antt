@@ -14,6 +14,8 @@ use Rattle.answer.specs.Answer.{refusalTold, ifAccepted}
 use Rattle.group.specs.Sizes.{leastSize, standardSize, informationLength, lastNumber}
 use Rattle.group.specs.State.{startRefusal}
 use Rattle.group.proofs.StateLaws.{started}
+use Rattle.laying.specs.Start.{freshState, writerStartCall}
+use Rattle.laying.proofs.Starts.{begun-at}
 use Rattle.laying.specs.declared.Writer.{Writer}
 use Rattle.laying.specs.Room.{room}
 use Rattle.laying.specs.Laying.{Desk}
@@ -21,9 +23,9 @@ use Rattle.laying.proofs.RoomLaws.{room-least}
 use Rattle.sound.specs.State.{writerSound}
 use Rattle.sound.proofs.SoundLaws.{sound, is-sound}
 use Rattle.sound.proofs.Accepted.{fits, record-accepted, separator-accepted, end-accepted}
-use Rattle.writer.specs.declared.WriterStart.the-variants as start
+use Rattle.laying.specs.declared.WriterStart.the-variants as start
 use Rattle.writer.specs.declared.WriteAnswer.the-variants.{Refused}
-use Rattle.writer.specs.Calls.{Done, done, orRefused, freshState, writerStartCall, recordCall, separatorCall, endCall, Call, aRecord, aSeparator, anEnd, refusalOf, call, told, stateOf}
+use Rattle.writer.specs.Calls.{Done, done, orRefused, recordCall, separatorCall, endCall, Call, aRecord, aSeparator, anEnd, refusalOf, call, told, stateOf}
 use Rattle.writer.proofs.Left.{Stays, stays-same, Left, record-left, separator-left, end-left}
 
 -- A call is its refusal, or what its accepted form leaves.
@@ -93,16 +95,7 @@ sound-after c w = by (outcome c w)
     by (refused h) e = absurd (h e)
     by (accepted e l) z = is-sound _ (l .sound)
 
--- "A writer starts the same way": a start that is accepted starts a fresh writer, with a sound state.
-pub begun-at : (size first : ℕ) (s : Writer) → writerStartCall size first ≡ start.Started s → (startRefusal size first ≡ 0) × (s ≡ freshState size first)
-unfolding writerStartCall
-begun-at size first s e = by (eqb (startRefusal size first) 0) refl e
-  where
-    by : (b : Bool) → eqb (startRefusal size first) 0 ≡ b → cond b (start.Started (freshState size first)) (start.Refused (startRefusal size first)) ≡ start.Started s
-        → (startRefusal size first ≡ 0) × (s ≡ freshState size first)
-    by true x h = (eqb-true (startRefusal size first) 0 x, cc)
-    by false x h = let z : _≡_ {A = ℕ} 0 1 = cc in absurd (omega arith)
-
+-- "A writer starts the same way": with a sound state.
 sound-fresh : (size first : ℕ) → startRefusal size first ≡ 0 → writerSound (freshState size first) ≡ true
 sound-fresh size first e =
     let l = within leastSize size standardSize (started size first e .0) in

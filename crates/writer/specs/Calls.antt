@@ -3,7 +3,7 @@
 use Prim.Native.Nat.{ℕ, _+_, _-_}
 use mathlib.Core.Path.{_≡_}
 use mathlib.Core.List.{List}
-use mathlib.Core.Bool.{Bool, false, cond}
+use mathlib.Core.Bool.{Bool, cond}
 use lib.ListN.{length, take}
 use lib.Dec.{eqb, leb, ltb}
 use Rattle.answer.specs.declared.Told.{Told}
@@ -12,15 +12,14 @@ use Rattle.answer.specs.Answer.{accepted}
 use Rattle.group.specs.declared.Kind.the-variants as kind
 use Rattle.group.specs.declared.Phase.{Phase}
 use Rattle.group.specs.declared.Phase.the-variants.{Free, Inside, Owed}
-use Rattle.group.specs.State.{startRefusal}
 use Rattle.laying.specs.declared.Writer.{Writer}
 use Rattle.laying.specs.declared.Fit.{Fit}
 use Rattle.laying.specs.declared.Fit.the-variants as fit
 use Rattle.laying.specs.Room.{room, fitOf, separatorFits, middleLength, lastWithTotal}
 use Rattle.laying.specs.Laying.{Desk, layEntry, layPart, moved, shut, ready}
 use Rattle.sound.specs.State.{endsEmpty, recordRefusal, separatorRefusal, endRefusal}
-use Rattle.writer.specs.declared.WriterStart.{WriterStart}
-use Rattle.writer.specs.declared.WriterStart.the-variants as start
+use Rattle.laying.specs.declared.WriterStart.{WriterStart}
+use Rattle.laying.specs.declared.WriterStart.the-variants as start
 use Rattle.writer.specs.declared.WriteAnswer.{WriteAnswer}
 use Rattle.writer.specs.declared.WriteAnswer.the-variants.{Finished, Closed, Refused}
 
@@ -49,16 +48,6 @@ closed taken w = done (Closed (shut w .state) (w .state .next) (w .state .entrie
 -- "A refusal answers the number .. and the state as given; nothing lent changes."
 unfoldable pub orRefused : ℕ → Desk → Done → Done
 orRefused refusal w a = cond (eqb refusal 0) a (done (Refused (w .state) refusal) (w .group))
-
--- "A writer starts the same way": free, with nothing laid.
-abbrev pub freshState : (size first : ℕ) → Writer
-freshState size first =
-    record { size = size; next = first; phase = Free; warned = false; sum = 0; rest = 0; filled = 0; entries = 0 }
-
--- "Order: start 2, 3." "A refused start gives no state."
-unfoldable pub writerStartCall : (size first : ℕ) → WriterStart
-writerStartCall size first =
-    cond (eqb (startRefusal size first) 0) (start.Started (freshState size first)) (start.Refused (startRefusal size first))
 
 -- "Record of n bytes, free. n ≤ r: entire. Otherwise with r ≥ 1: start of r bytes, skip, close. With r ≤ 0: skip, close,
 -- nothing taken."

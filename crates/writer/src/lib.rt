@@ -2,18 +2,10 @@
 // lent. Every input is answered.
 mod calls;
 
-ghost use mathlib.Core.Path.{_≡_};
 ghost use Rattle.laying.specs.Laying.{desk};
-ghost use Rattle.writer.specs.Calls.{Meets, writerStartCall, recordCall, separatorCall, endCall};
-use group::Phase;
+ghost use Rattle.writer.specs.Calls.{Meets, recordCall, separatorCall, endCall};
 use laying::Writer;
 use laying::lay;
-
-// A start's answer: the state, or the number of the refusal.
-pub enum WriterStart {
-    Started(Writer),
-    Refused(u32),
-}
 
 // A call's answer. The state stands first in each case, so that it lies at one place whichever it is.
 pub enum WriteAnswer {
@@ -28,26 +20,6 @@ pub enum WriteAnswer {
         state: Writer,
         refusal: u32,
     },
-}
-
-// A fresh writer: free, with nothing laid.
-pub fn start(size: u32, first: u32) -> WriterStart
-    ensures { λ r. ⌜ r ≡ writerStartCall size first ⌝ }
-{
-    let refusal = group::state::start_refusal(size, first);
-    if refusal != 0 {
-        return WriterStart::Refused(refusal);
-    }
-    WriterStart::Started(Writer {
-        size,
-        next: first,
-        phase: Phase::Free,
-        warned: false,
-        sum: 0,
-        rest: 0,
-        filled: 0,
-        entries: 0,
-    })
 }
 
 // A record's bytes: whole, or as many as the group takes.

@@ -3,11 +3,11 @@ use borrow.Author.Needs.{needs}
 use mathlib.Core.Path.{_≡_, sym, ap, _∙_}
 use mathlib.Core.Bool.{true}
 use lib.ListN.{length}
+use Rattle.laying.proofs.Starts.{begun-at}
 use Rattle.numbers.proofs.Tests.{fails, holds}
 use Rattle.laying.specs.declared.Writer.{Writer}
-use Rattle.writer.specs.declared.WriterStart.{WriterStart}
+use Rattle.laying.specs.declared.WriterStart.{WriterStart}
 use Rattle.writer.specs.Calls.{startTold}
-use Rattle.writer.proofs.Theorems.{begun-at}
 use Rattle.slices.specs.Call.{answerLength, lengthsKept}
 use Rattle.slices.proofs.Calls as calls
 use Rattle.states.specs.States.{writerLength, writerBytes}

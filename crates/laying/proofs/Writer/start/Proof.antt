@@ -1,9 +1,9 @@
--- `start` meets its contract: the number that `start_refusal` answers decides. Assumes nothing.
+-- `Writer::start` meets its contract: the number that `start_refusal` answers decides. Assumes nothing.
 use borrow.Author.Needs.{needs}
 use borrow.Author.Tests.{eq-eqb, ne-eqb}
-use Rattle.writer.specs.Calls.{writerStartCall}
-use Rattle.writer.proofs.start.Statement.{statement}
-use Rattle.writer.proofs.start.Tie as tie
+use Rattle.laying.specs.Start.{writerStartCall}
+use Rattle.laying.proofs.Writer.start.Statement.{statement}
+use Rattle.laying.proofs.Writer.start.Tie as tie
 
 pub start-spec : {M : Type 1} → statement M
 unfolding writerStartCall
