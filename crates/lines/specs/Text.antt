@@ -73,7 +73,7 @@ groupLines number entries rows = groupLine number entries ++ rowLines entries ro
 
 -- "A refusal prints `refused R at K`"
 unfoldable pub refusalLine : ℕ → ℕ → List ℕ
-refusalLine number place = labelled (ascii "refused") number ++ (labelled (ascii " at") place ++ newline)
+refusalLine refusal place = labelled (ascii "refused") refusal ++ (labelled (ascii " at") place ++ newline)
 
 -- "`end`, then `free`, `inside` or `owed`, then the sum"
 unfoldable pub ending : Phase → List ℕ

@@ -141,11 +141,11 @@ pub fn add_group(text: &mut [u8], at: usize, number: u32, entries: u32, rows: &[
 }
 
 // The line of a refusal.
-pub fn add_refusal(text: &mut [u8], at: usize, number: u32, place: u32) -> usize
+pub fn add_refusal(text: &mut [u8], at: usize, refusal: u32, place: u32) -> usize
     requires { ⌜ at + 33 ≤ length (now text) ⌝ }
-    ensures { λ r. ⌜ Added 33 (now (text .entry)) at (refusalLine number place) (now (text .exit)) r ⌝ }
+    ensures { λ r. ⌜ Added 33 (now (text .entry)) at (refusalLine refusal place) (now (text .exit)) r ⌝ }
 {
-    let numbered = add_labelled(text, at, b"refused", number);
+    let numbered = add_labelled(text, at, b"refused", refusal);
     let placed = add_labelled(text, numbered, b" at", place);
     add_byte(text, placed, b'\n')
 }
