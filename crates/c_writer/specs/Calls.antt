@@ -17,7 +17,8 @@ ddsWriterStart size first state answer =
     called (lengthsKept (length state) writerLength (length answer)) (startTold (writerStartCall size first))
     (writerBytes (freshState size first) ∷ []) (state ∷ []) answer
 
--- What a call leaves that the writer's own, done on the state that the slice holds, answers so. `warn` is a b4 number too.
+-- What a record, a separator or an end leaves, by what the writer's own call has done on the state that the slice holds. `warn` is a
+-- b4 number too.
 unfoldable pub written : Done → (state group : List ℕ) (warn : ℕ) (answer : List ℕ) → Left
 written done state group warn answer =
     called (lengthsKept (length state) writerLength (length answer)) (ofMeaning (writerMeant state && b4Meant warn) (told (done .answer)))

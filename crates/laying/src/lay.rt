@@ -1,4 +1,5 @@
-// What is laid in a group: entries, data, an owed total, the skip and the gap. Each step takes the state by value and the group that it is lent.
+// What is laid in a group: entries, data, an owed total, the skip and the gap. Each step takes the state by value, and the group
+// that it is lent.
 ghost use mathlib.Core.Path.{_≡_};
 ghost use Prim.Native.Nat.{_+_, _≤_};
 ghost use lib.ListN.{length};
