@@ -132,7 +132,7 @@ pub fn put_next(slice: &mut [u8], r: Reader)
 }
 
 // The state's four numbers, over all that stood in the slice.
-pub fn put_reader(slice: &mut [u8], r: Reader)
+fn put_reader(slice: &mut [u8], r: Reader)
     requires { ⌜ length (now slice) ≡ readerLength ⌝ }
     ensures { λ _. ⌜ now (slice .exit) ≡ readerBytes r ⌝ }
 {
@@ -156,4 +156,23 @@ pub fn put_writer(slice: &mut [u8], w: Writer)
     keep(slice, 20, w.entries);
     keep(slice, 24, b4);
     keep(slice, 28, w.rest);
+}
+
+// A fresh reader's state. Its bytes are zeros first: what `keep` looks at was then stored here, and nothing that the slice held
+// is looked at.
+pub fn begin_reader(slice: &mut [u8], r: Reader)
+    requires { ⌜ length (now slice) ≡ readerLength ⌝ }
+    ensures { λ _. ⌜ now (slice .exit) ≡ readerBytes r ⌝ }
+{
+    numbers::bytes::put_zeros(slice, 0, READER_LENGTH);
+    put_reader(slice, r);
+}
+
+// A fresh writer's, in the same way.
+pub fn begin_writer(slice: &mut [u8], w: Writer)
+    requires { ⌜ length (now slice) ≡ writerLength ⌝ }
+    ensures { λ _. ⌜ now (slice .exit) ≡ writerBytes w ⌝ }
+{
+    numbers::bytes::put_zeros(slice, 0, WRITER_LENGTH);
+    put_writer(slice, w);
 }
