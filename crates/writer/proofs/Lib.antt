@@ -3,5 +3,6 @@ pub mod Desks
 pub mod CallLaws
 pub mod Exits
 pub mod Left
+pub mod Ends
 pub mod Settled
 pub mod Theorems
