@@ -12,6 +12,7 @@ pub mod Buffer
 pub mod Held
 pub mod Accounts
 pub mod Returned
+pub mod Ended
 pub mod TotalKept
 pub mod Bench
 pub mod Theorems

@@ -18,8 +18,8 @@ use Rattle.layout.specs.Layout.{Image, Lays}
 use Rattle.layout.specs.Accepting.{Accepts, Lent}
 use Rattle.layout.specs.Reading.{OfBytes, itemsRead, begunRead}
 use Rattle.layout.specs.Stated.{EndsWith, AcceptedWith, AtEnd, OutOfOrder}
-use Rattle.layout.specs.Writing.{Account, Wrote}
-use Rattle.layout.specs.WritingStated.{GivesBack, TotalsKept}
+use Rattle.layout.specs.Writing.{Account, Wrote, WasEnded}
+use Rattle.layout.specs.WritingStated.{GivesBack, AllClosed, TotalsKept}
 use Rattle.layout.specs.BenchTable.{Case, shown, benchTable}
 use Rattle.layout.proofs.Grammar.{tailStand, tailSum}
 use Rattle.layout.proofs.Complete.{AcceptedTo, complete-to, ends-with}
@@ -27,6 +27,7 @@ use Rattle.layout.proofs.OnlyOne.{reading-is, one-reading, enough}
 use Rattle.layout.proofs.Sound.{lawful-from}
 use Rattle.layout.proofs.Order.{first-of, size-after, next-after, number-of, same-state, split, each-before, out-of-order}
 use Rattle.layout.proofs.Returned as written
+use Rattle.layout.proofs.Ended as endings
 use Rattle.layout.proofs.TotalKept as totals
 use Rattle.layout.proofs.Bench as computed
 
@@ -132,6 +133,11 @@ module _ (size first : ℕ) (w : Desk) (run : List Image) (closed now : Account)
   -- far are accepted, with any row buffers that are long enough, and the rows give back the account at the last close.
   pub returned : (lent : List (List ℕ)) → Lent run lent → GivesBack size first run lent closed
   returned lent e = written.gives-back x e
+
+  -- "End: free with e = 0, and no total owed, closes nothing. Otherwise skip and close." After an accepted end nothing waits in
+  -- the group: a run that was ended gives back all that was written.
+  pub ended : WasEnded x → AllClosed size first w run closed now
+  ended h = endings.all-closed x h
 
   -- Where the phase is free, nothing is left half-written.
   pub free-whole : w .state .phase ≡ phase.Free → now .begun ≡ []

@@ -1,5 +1,6 @@
--- Writings by computation, so that `returned` and `total-kept` do not speak of nothing: a total owed at the run's end, one
--- laid since the last close, and a record broken off inside; with b4, refused calls and other buffers in between.
+-- Writings by computation, so that `returned`, `ended` and `total-kept` do not speak of nothing: a total owed at the run's end,
+-- one laid since the last close, a record broken off inside, and a run that was ended; with b4, refused calls and other buffers
+-- in between.
 -- Assumes nothing.
 use Prim.Native.Nat.{ℕ}
 use mathlib.Core.List.{List, [], _∷_}
@@ -10,7 +11,7 @@ use Rattle.laying.specs.Laying.{Desk}
 use Rattle.writer.specs.Calls.Call.{aRecord, aSeparator, anEnd}
 use Rattle.layout.specs.Items.Item.{recordItem, separatorItem}
 use Rattle.layout.specs.Layout.{Image}
-use Rattle.layout.specs.Writing.{Account, blank, totalLaid, inHand, afterRecord, afterSeparator, noted, imageOf, Wrote}
+use Rattle.layout.specs.Writing.{Account, blank, totalLaid, inHand, afterRecord, afterSeparator, noted, imageOf, Wrote, WasEnded}
 use Rattle.layout.specs.Writing.Wrote.{begins, goes-on, closes, refused}
 use Rattle.layout.specs.BenchTable.{from}
 use Rattle.layout.proofs.Bench.{opens}
@@ -71,3 +72,23 @@ broken-inside =
           tt refl refl refl) tt refl refl refl) refl refl refl refl;
       many = refl;
     }
+
+-- A record and a separator, and an end, which closes their group; a second end closes nothing. All is in the run.
+pub ended-whole : Shows 1 (record { finished = recordItem (from 1 9) ∷ separatorItem 1 ∷ []; begun = []; asked = [] })
+    (record { finished = recordItem (from 1 9) ∷ separatorItem 1 ∷ []; begun = []; asked = [] })
+unfolding opens blank totalLaid inHand afterRecord afterSeparator noted imageOf from
+ended-whole =
+    record {
+      desk = _;
+      run = _;
+      wrote =
+          goes-on (anEnd false)
+          (closes (anEnd true) (replicate 32 2) (replicate 64 1)
+          (goes-on (aSeparator 1 false) (goes-on (aRecord (from 1 9) false) (begins {g = replicate 64 0xEE} refl refl) tt refl) tt refl)
+          tt refl refl refl) tt refl;
+      many = refl;
+    }
+
+pub was-ended : WasEnded (ended-whole .wrote)
+unfolding ended-whole WasEnded
+was-ended = tt

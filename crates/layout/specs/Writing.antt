@@ -87,3 +87,16 @@ pub data Wrote (size first : ℕ) : Desk → List Image → Account → Account 
       (noted c (w .state .phase) (Closed s number entries taken) now) (noted c (w .state .phase) (Closed s number entries taken) now)
   refused : {w : Desk} {s : Writer} {refusal : ℕ} {run : List Image} {closed now : Account} (c : Call) → Wrote size first w run closed now →
       call c w .answer ≡ Refused s refusal → Wrote size first (desk s (call c w .group)) run closed now
+
+-- "End": whether a call is one.
+abbrev pub IsEnd : Call → Type 0
+IsEnd (aRecord bytes warn) = ⊥
+IsEnd (aSeparator value warn) = ⊥
+IsEnd (anEnd warn) = Unit {0}
+
+-- A run that was ended: the last call that was accepted is an end.
+unfoldable pub WasEnded : {size first : ℕ} {w : Desk} {run : List Image} {closed now : Account} → Wrote size first w run closed now → Type 0
+WasEnded (begins e l) = ⊥
+WasEnded (goes-on c x asked e) = IsEnd c
+WasEnded (closes c information g x asked e i l) = IsEnd c
+WasEnded (refused c x e) = WasEnded x

@@ -1,16 +1,19 @@
--- What the theorems of a writer state where it is more than one fact: a run that gives an account back, and where the totals
--- stand of records that span groups.
+-- What the theorems of a writer state where it is more than one fact: a run that gives an account back, a run that was ended,
+-- and where the totals stand of records that span groups.
 -- Assumes nothing.
 use Prim.Native.Nat.{ℕ, _≤_}
 use mathlib.Core.List.{List, [], _∷_, _++_}
 use mathlib.Core.Path.{_≡_}
 use lib.ListN.{length}
+use Rattle.group.specs.declared.Phase.the-variants as phase
 use Rattle.reader.specs.declared.Reader.{Reader}
 use Rattle.reader.specs.declared.ReaderStart.the-variants as start
 use Rattle.reader.specs.Answer.{readerStartCall}
+use Rattle.laying.specs.Laying.{Desk}
 use Rattle.layout.specs.Items.{Piece}
 use Rattle.layout.specs.Items.Piece.{aTotal, aLast}
 use Rattle.layout.specs.Layout.{Image, Run}
+use Rattle.layout.specs.Accepting.{Lent}
 use Rattle.layout.specs.Reading.{begunAfter, itemsRead, begunRead}
 use Rattle.layout.specs.Stated.{AcceptedWith}
 use Rattle.layout.specs.Writing.{Account}
@@ -23,6 +26,15 @@ pub record GivesBack (size first : ℕ) (run : List Image) (lent : List (List �
   pub accepted : AcceptedWith reader run lent (a .begun)
   pub items : itemsRead run (accepted .rows) ≡ a .finished
   pub begun : begunRead run (accepted .rows) ≡ a .begun
+
+-- After an end: no entry stands in the group and no record is open, the account at the last close is the account now, and the
+-- groups closed give all of it back.
+pub record AllClosed (size first : ℕ) (w : Desk) (run : List Image) (closed now : Account) : Type 0 where
+  pub none : w .state .entries ≡ 0
+  pub free : w .state .phase ≡ phase.Free
+  pub all : closed ≡ now
+  pub whole : now .begun ≡ []
+  pub gives-back : (lent : List (List ℕ)) → Lent run lent → GivesBack size first run lent now
 
 -- The bytes so far of the record that is open after these groups.
 unfoldable pub begunIn : List ℕ → List (List Piece) → List ℕ

@@ -1,14 +1,14 @@
 -- What an accepted call knows: each test of its chain of refusals was passed.
 -- Assumes nothing.
-use mathlib.Core.Path.{_≡_, refl, ap}
-use mathlib.Core.Bool.{Bool, true, false, cond, not, _&&_}
+use mathlib.Core.Path.{_≡_, refl, sym, ap, _∙_}
+use mathlib.Core.Bool.{Bool, true, false, cond, not, true≢false}
 use mathlib.Core.List.{List}
 use Prim.Native.Nat.{ℕ, _+_, _≤_}
 use native.Mathlib.Omega.{arith}
 use lib.ListN.{length}
 use lib.Dec.{eqb}
-use borrow.Author.Tests.{leb-true, eqb-true, eqb-false, not-false, not-true}
-use Rattle.numbers.proofs.Tests.{within, passed}
+use borrow.Author.Tests.{leb-true, eqb-true, not-false, not-true}
+use Rattle.numbers.proofs.Tests.{both, within, passed}
 use Rattle.group.specs.Sizes.{longestRecord, lastNumber, recordKept}
 use Rattle.group.specs.declared.Phase.the-variants.{Inside}
 use Rattle.laying.specs.declared.Writer.{Writer}
@@ -107,6 +107,16 @@ separator-accepted s g value e =
       small = leb-true _ _ (not-false _ (f .0));
     }
 
+-- "End: free with e = 0, and no total owed, closes nothing": where an end closes nothing, no entry stands and no total is owed,
+pub ends-empty : (s : Writer) → endsEmpty s ≡ true → (isOwed (s .phase) ≡ false) × (s .entries ≡ 0)
+ends-empty s e =
+    let h = both (not (isOwed (s .phase))) (eqb (s .entries) 0) e in
+    (not-true _ (h .0), eqb-true (s .entries) 0 (h .1))
+
+-- .. and where neither is so, it closes nothing.
+ends-nothing : (s : Writer) → isOwed (s .phase) ≡ false → s .entries ≡ 0 → endsEmpty s ≡ true
+ends-nothing s p q = rw (p, q)
+
 below : {n : ℕ} → n ≤ lastNumber + 1 → (n ≡ lastNumber + 1 → ⊥) → n ≤ lastNumber
 below h e = omega arith
 
@@ -133,6 +143,6 @@ end-accepted s g e =
     }
   where
     by : Sound s → (o : Bool) → isOwed (s .phase) ≡ o → (isOwed (s .phase) ≡ true → s .next ≤ lastNumber)
-        → (not o && eqb (s .entries) 0) ≡ false → s .next ≤ lastNumber
+        → endsEmpty s ≡ false → s .next ≤ lastNumber
     by t true p h q = h p
-    by t false p h q = below (t .run .number) (λ e. eqb-false (s .entries) 0 q (t .spent e .1))
+    by t false p h q = below (t .run .number) (λ e. true≢false (sym (ends-nothing s p (t .spent e .1)) ∙ q))

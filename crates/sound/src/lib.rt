@@ -212,8 +212,9 @@ pub fn ends_empty(w: Writer) -> bool
     ensures { λ r. ⌜ r ≡ endsEmpty w ⌝ }
 {
     let phase = w.phase;
+    let entries = w.entries;
     if is_owed(phase) {
         return false;
     }
-    w.entries == 0
+    entries == 0
 }

@@ -3,5 +3,8 @@ pub mod Desks
 pub mod CallLaws
 pub mod Exits
 pub mod Left
+pub mod Ends
+pub mod GetsOn
 pub mod Settled
 pub mod Theorems
+pub mod Offering

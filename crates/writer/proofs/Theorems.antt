@@ -13,6 +13,7 @@ use Rattle.numbers.proofs.Tests.{within}
 use Rattle.answer.specs.Answer.{refusalTold, ifAccepted}
 use Rattle.group.specs.Sizes.{leastSize, standardSize, informationLength, lastNumber}
 use Rattle.group.specs.State.{startRefusal}
+use Rattle.group.specs.declared.Phase.the-variants.{Free}
 use Rattle.group.proofs.StateLaws.{started}
 use Rattle.laying.specs.Start.{freshState, writerStartCall}
 use Rattle.laying.proofs.Starts.{begun-at}
@@ -26,6 +27,7 @@ use Rattle.sound.proofs.Accepted.{fits, record-accepted, separator-accepted, en
 use Rattle.laying.specs.declared.WriterStart.the-variants as start
 use Rattle.writer.specs.declared.WriteAnswer.the-variants.{Refused}
 use Rattle.writer.specs.Calls.{Done, done, orRefused, recordCall, separatorCall, endCall, Call, aRecord, aSeparator, anEnd, refusalOf, call, told, stateOf}
+use Rattle.writer.proofs.Ends.{end-rests}
 use Rattle.writer.proofs.Left.{Stays, stays-same, Left, record-left, separator-left, end-left}
 
 -- A call is its refusal, or what its accepted form leaves.
@@ -94,6 +96,15 @@ sound-after c w = by (outcome c w)
     by : {d : Done} → Outcome (refusalOf c w) w d → refusalTold (told (d .answer)) ≡ 0 → writerSound (stateOf (d .answer)) ≡ true
     by (refused h) e = absurd (h e)
     by (accepted e l) z = is-sound _ (l .sound)
+
+-- "End: free with e = 0, and no total owed, closes nothing. Otherwise skip and close." An accepted end leaves no entry in the
+-- group, and no record that is not finished.
+pub end-empties : (warn : Bool) (w : Desk) → refusalTold (told (call (anEnd warn) w .answer)) ≡ 0 →
+    (stateOf (call (anEnd warn) w .answer) .entries ≡ 0) × (stateOf (call (anEnd warn) w .answer) .phase ≡ Free)
+unfolding call refusalOf
+end-empties warn w e =
+    let r = end-rests warn w (sym (refusal-told (anEnd warn) w) ∙ e) in
+    (r .none, r .free)
 
 -- "A writer starts the same way": with a sound state.
 sound-fresh : (size first : ℕ) → startRefusal size first ≡ 0 → writerSound (freshState size first) ≡ true

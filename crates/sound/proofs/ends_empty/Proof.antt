@@ -11,4 +11,4 @@ ends-empty-spec =
     (tie.spec
     (λ c κs. search needs)
     (λ c. search (sym (c .before .is-owed .ensures) ∙ c .if1 .taken, tests))
-    (λ c. search (sym (c .before .before .is-owed .ensures) ∙ c .before .if1 .left, tests)))
+    (λ c. search (sym (c .before .is-owed .ensures) ∙ c .if1 .left, tests)))
