@@ -3,7 +3,7 @@
 use Prim.Native.Nat.{ℕ, _/_}
 use mathlib.Core.List.{List, _∷_, _++_}
 use mathlib.Core.Path.{_≡_, sym, ap, _∙_, subst}
-use mathlib.Core.Logic.{_↔_}
+use mathlib.Core.Logic.{_↔_, _⊎_}
 use lib.ListN.{length, replicate, length-replicate}
 use Rattle.reader.specs.declared.Reader.{Reader}
 use Rattle.reader.specs.declared.ReaderStart.the-variants as start
@@ -11,6 +11,7 @@ use Rattle.reader.specs.Answer.{fresh, readerStartCall, readCall}
 use Rattle.reader.proofs.Accepted.{begun-at}
 use Rattle.group.specs.State.{startRefusal}
 use Rattle.laying.specs.Laying.{desk}
+use Rattle.writer.specs.Calls.{Call}
 use Rattle.layout.specs.Items.{Item, Each}
 use Rattle.layout.specs.Layout.{Image, Lays}
 use Rattle.layout.specs.Accepting.{Accepts}
@@ -22,12 +23,18 @@ use Rattle.layout.proofs.Theorems.{complete, lawful, state-at-end, exchanged, o
 use Rattle.slices.specs.Call.{Left, answerLength}
 use Rattle.states.specs.States.{readerLength, readerOf, writerOf}
 use Rattle.c_reader.specs.Calls.{ddsReaderStart, readerLeft}
-use Rattle.trip.specs.ThroughC.{Loan, LentC, numbersLent, WroteC, AcceptsC}
+use Rattle.trip.specs.ThroughC.{callC, outcomeSeen, Loan, LentC, numbersLent, WroteC, AcceptsC}
 use Rattle.trip.specs.Stated.{Written, GivesBackC, AcceptedC, AcceptsOwn, AtEndC, OutOfOrderC}
-use Rattle.trip.proofs.Writing.{written-through}
+use Rattle.trip.proofs.Writing.{written-through, either-seen}
 use Rattle.trip.proofs.Reading.{slice, enough-lent, held-slice, starts-through, sound-fresh, refused-through, accepted-through, sound-end}
 use Rattle.trip.proofs.Settled.{start-lent, lent-enough, same-reading}
 use Rattle.trip.proofs.Accepting.{accepts-own, split}
+
+-- "A call either finishes its work, or closes the group": every call from C that returns 0 tells outcome 0 or 1, whatever is lent. So
+-- a writing from C goes on at each of them.
+pub c-goes-on : (c : Call) (state group answer : List ℕ) → callC c state group answer .refusal ≡ 0 →
+    (outcomeSeen (callC c state group answer) ≡ 0) ⊎ (outcomeSeen (callC c state group answer) ≡ 1)
+c-goes-on = either-seen
 
 module _ (size first : ℕ) (state group : List ℕ) (run : List Image) (closed now : Account) (x : WroteC size first state group run closed now) where
   -- What was written from C is what the writer's own calls wrote, on the state that the state slice holds; and the slice is the
