@@ -1,2 +1,3 @@
--- The laws of a reader's two calls.
+-- The laws of a reader's two calls, and the theorems.
 pub mod Laws
+pub mod Theorems

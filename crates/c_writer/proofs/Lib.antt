@@ -1,2 +1,3 @@
--- The laws of a writer's four calls.
+-- The laws of a writer's four calls, and the theorems.
 pub mod Laws
+pub mod Theorems

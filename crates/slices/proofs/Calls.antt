@@ -1,19 +1,21 @@
 -- Laws of the one shape of a call: one that its lengths refuse, one that goes on, and what is left in slices one by one.
 -- Assumes nothing.
 use mathlib.Core.Path.{_≡_, refl, sym, ap, _∙_}
+use mathlib.Core.Logic.{_↔_}
 use mathlib.Core.Bool.{Bool, true, false, true≢false}
 use mathlib.Core.List.{List, [], _∷_}
 use Prim.Native.Nat.{ℕ}
 use native.Mathlib.Omega.{arith}
 use borrow.Author.Tests.{eqb-true}
 use lib.Dec.{eqb}
-use lib.ListN.{getD}
+use lib.ListN.{length, getD}
 use Rattle.numbers.specs.Numbers.{inBytes}
+use Rattle.numbers.proofs.InBytes.{length-in-bytes}
 use Rattle.numbers.proofs.Tests.{both}
 use Rattle.answer.specs.declared.Told.{Told}
 use Rattle.answer.specs.declared.Told.the-variants.{Accepted, RefusedAt}
 use Rattle.answer.specs.Answer.{accepted, numbersTold, refusalTold, ifAccepted}
-use Rattle.slices.specs.Call.{Left, left, slice, answerLength, lengthsKept, ofMeaning, called, Tells, Refuses}
+use Rattle.slices.specs.Call.{Left, left, slice, answerLength, lengthsKept, ofMeaning, called, Tells, Refuses, Answers}
 
 -- Two outcomes that meet a call's contract, which is that what it leaves is so and so, coincide: the returned number and every byte
 -- of every slice that it may write.
@@ -101,3 +103,30 @@ leaves told new old answer e k =
       slices = λ i. ap (λ (p : Left). slice p i) f ∙ slice-left told new old i;
       numbers = ap (λ (p : Left). p .answer) f;
     }
+
+-- Six numbers of four bytes.
+long-told : (told : Told) → length (inBytes (numbersTold told)) ≡ answerLength
+long-told (Accepted outcome number entries taken) = length-in-bytes (0 ∷ 0 ∷ outcome ∷ number ∷ entries ∷ taken ∷ [])
+long-told (RefusedAt refusal place) = length-in-bytes (refusal ∷ place ∷ 0 ∷ 0 ∷ 0 ∷ 0 ∷ [])
+
+-- "a state, an answer and rows are lent byte slices, each number four bytes": the 24 bytes of the answer are what is told, at every
+-- call; where a length refuses it they stay as they were.
+pub c-answers : {o : Left} (kept : Bool) (told : Told) (new old : List (List ℕ)) (answer : List ℕ) → o ≡ called kept told new old answer → Answers kept told answer (o .answer)
+unfolding called
+c-answers true told new old answer e =
+    let f = ap (λ (p : Left). p .answer) e in
+    record { tells = λ h. f; long = λ h. ap length f ∙ long-told told; stays = λ h. absurd (true≢false h) }
+c-answers false told new old answer e =
+    record { tells = λ h. absurd (true≢false (sym h)); long = λ h. absurd (true≢false (sym h)); stays = λ h. ap (λ (p : Left). p .answer) e }
+
+-- "Each call returns the number, 0 if accepted": 0 just where the lengths are kept and what is told is 0.
+pub returns-zero : (kept : Bool) (told : Told) (new old : List (List ℕ)) (answer : List ℕ) →
+    (called kept told new old answer .refusal ≡ 0) ↔ ((kept ≡ true) × (refusalTold told ≡ 0))
+unfolding called
+returns-zero true told new old answer = (λ e. (refl, e), λ p. p .1)
+returns-zero false told new old answer = (λ e. absurd (omega arith), λ p. absurd (true≢false (sym (p .0))))
+
+-- .. and of a number that has no meaning.
+pub meant-zero : (meant : Bool) (told : Told) → (refusalTold (ofMeaning meant told) ≡ 0) ↔ ((meant ≡ true) × (refusalTold told ≡ 0))
+meant-zero true told = (λ e. (refl, e), λ p. p .1)
+meant-zero false told = (λ e. absurd (omega arith), λ p. absurd (true≢false (sym (p .0))))

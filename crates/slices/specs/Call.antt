@@ -4,7 +4,7 @@
 use Prim.Native.Nat.{ℕ}
 use mathlib.Core.Path.{_≡_}
 use mathlib.Core.List.{List, []}
-use mathlib.Core.Bool.{Bool, cond, not, _&&_}
+use mathlib.Core.Bool.{Bool, true, false, cond, not, _&&_}
 use lib.Dec.{eqb}
 use lib.ListN.{length, getD}
 use Rattle.numbers.specs.Numbers.{inBytes}
@@ -56,3 +56,10 @@ pub record Tells (told : Told) (refusal : ℕ) (answer : List ℕ) : Type 0 wher
 pub record Refuses (kept meant : Bool) (old : List ℕ) (refused : Bool) (answer : List ℕ) : Type 0 where
   pub refuses : refused ≡ not (kept && meant)
   pub numbers : answer ≡ cond (kept && not meant) (inBytes (numbersTold (RefusedAt 1 0))) old
+
+-- What a call leaves in its answer slice, in place of `old`: "six numbers", "each number four bytes", by what it tells. "with nothing
+-- written" where a length refuses it.
+pub record Answers (kept : Bool) (told : Told) (old answer : List ℕ) : Type 0 where
+  pub tells : kept ≡ true → answer ≡ inBytes (numbersTold told)
+  pub long : kept ≡ true → length answer ≡ answerLength
+  pub stays : kept ≡ false → answer ≡ old

@@ -4,5 +4,6 @@ pub mod Told
 pub mod Writing
 pub mod Reading
 pub mod Settled
+pub mod Accepting
 pub mod Theorems
 pub mod Shown

@@ -27,7 +27,7 @@ use Rattle.slices.specs.Call.{Left, left, answerLength, lengthsKept, called}
 use Rattle.states.specs.States.{readerLength, phaseNumber, phaseMeant, readerOf, readerNumbers, readerMeant}
 use Rattle.c_reader.specs.Calls.{ddsReaderStart, ddsRead}
 use Rattle.states.proofs.StateLaws.{reader-of-bytes, sound-reader-fits}
-use Rattle.trip.specs.ThroughC.{Loan, LentC, AcceptsC}
+use Rattle.trip.specs.ThroughC.{Loan, LentC, numbersLent, AcceptsC}
 use Rattle.trip.proofs.SmallRows.{small-rows, length-group-rows}
 
 -- The bytes of a reader's state.
@@ -84,10 +84,12 @@ read-through : (s t : Reader) (group : List ℕ) (number n : ℕ) (rows answer :
 unfolding ddsRead called
 read-through s t group number n rows answer h l e = rw (kept-lengths (slice s) answer (long-slice s) l, meant-slice s, held-slice s h, e)
 
--- The row numbers for which the loans have room.
-abbrev pub numbersLent : List Loan → List (List ℕ)
-numbersLent [] = []
-numbersLent (loan ∷ loans) = numbersIn (loan .rows) ∷ numbersLent loans
+-- A read of the bytes of a sound state that the reader refuses.
+pub refused-through : (s : Reader) (state : List ℕ) (g : Image) (rows answer : List ℕ) {refusal place : ℕ} → sound s ≡ true → slice s ≡ state → length answer ≡ answerLength →
+    readCall s (g .bytes) (g .number) (g .entries) (length rows / 4) ≡ read.Refused s refusal place →
+    ddsRead state (g .bytes) (g .number) (g .entries) rows answer ≡ left refusal (state ∷ rows ∷ []) (inBytes (refusal ∷ place ∷ 0 ∷ 0 ∷ 0 ∷ 0 ∷ []))
+unfolding ddsRead called
+refused-through s state g rows answer h is l e = rw (← is, kept-lengths (slice s) answer (long-slice s) l, meant-slice s, held-slice s h, e)
 
 pub enough-lent : {run : List Image} {loans : List Loan} → LentC run loans → Lent run (numbersLent loans)
 enough-lent LentC.lent-none = Lent.lent-none

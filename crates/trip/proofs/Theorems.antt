@@ -1,24 +1,40 @@
--- The theorems of this crate: the way of a run through C's slices, written and read.
+-- The theorems of this crate: the way of a run through C's slices, written and read; and demand 3 of any run that C reads.
 -- Assumes nothing.
-use Prim.Native.Nat.{ℕ}
-use mathlib.Core.List.{List}
+use Prim.Native.Nat.{ℕ, _/_}
+use mathlib.Core.List.{List, _∷_, _++_}
 use mathlib.Core.Path.{_≡_, sym, ap, _∙_, subst}
-use lib.ListN.{length}
+use mathlib.Core.Logic.{_↔_, _⊎_}
+use lib.ListN.{length, replicate, length-replicate}
 use Rattle.reader.specs.declared.Reader.{Reader}
+use Rattle.reader.specs.declared.ReaderStart.the-variants as start
+use Rattle.reader.specs.Answer.{fresh, readerStartCall, readCall}
+use Rattle.reader.proofs.Accepted.{begun-at}
+use Rattle.group.specs.State.{startRefusal}
 use Rattle.laying.specs.Laying.{desk}
-use Rattle.layout.specs.Layout.{Image}
-use Rattle.layout.specs.Reading.{itemsRead, begunRead}
+use Rattle.writer.specs.Calls.{Call}
+use Rattle.layout.specs.Items.{Item, Each}
+use Rattle.layout.specs.Layout.{Image, Lays}
+use Rattle.layout.specs.Accepting.{Accepts}
+use Rattle.layout.specs.Reading.{OfBytes, itemsRead, begunRead}
 use Rattle.layout.specs.Stated.{EndsWith}
 use Rattle.layout.specs.Writing.{Account}
-use Rattle.layout.proofs.Theorems.{returned}
+use Rattle.layout.proofs.Order.{each-before}
+use Rattle.layout.proofs.Theorems.{complete, lawful, state-at-end, exchanged, only-one, returned}
 use Rattle.slices.specs.Call.{Left, answerLength}
-use Rattle.states.specs.States.{readerLength, writerOf}
+use Rattle.states.specs.States.{readerLength, readerOf, writerOf}
 use Rattle.c_reader.specs.Calls.{ddsReaderStart, readerLeft}
-use Rattle.trip.specs.ThroughC.{Loan, LentC, WroteC, AcceptsC}
-use Rattle.trip.specs.Stated.{Written, GivesBackC}
-use Rattle.trip.proofs.Writing.{written-through}
-use Rattle.trip.proofs.Reading.{slice, numbersLent, enough-lent, held-slice, starts-through, sound-fresh, accepted-through, sound-end}
+use Rattle.trip.specs.ThroughC.{callC, outcomeSeen, Loan, LentC, numbersLent, WroteC, AcceptsC}
+use Rattle.trip.specs.Stated.{Written, GivesBackC, AcceptedC, AcceptsOwn, AtEndC, OutOfOrderC}
+use Rattle.trip.proofs.Writing.{written-through, either-seen}
+use Rattle.trip.proofs.Reading.{slice, enough-lent, held-slice, starts-through, sound-fresh, refused-through, accepted-through, sound-end}
 use Rattle.trip.proofs.Settled.{start-lent, lent-enough, same-reading}
+use Rattle.trip.proofs.Accepting.{accepts-own, split}
+
+-- "A call either finishes its work, or closes the group": every call from C that returns 0 tells outcome 0 or 1, whatever is lent. So
+-- a writing from C goes on at each of them.
+pub c-goes-on : (c : Call) (state group answer : List ℕ) → callC c state group answer .refusal ≡ 0 →
+    (outcomeSeen (callC c state group answer) ≡ 0) ⊎ (outcomeSeen (callC c state group answer) ≡ 1)
+c-goes-on = either-seen
 
 module _ (size first : ℕ) (state group : List ℕ) (run : List Image) (closed now : Account) (x : WroteC size first state group run closed now) where
   -- What was written from C is what the writer's own calls wrote, on the state that the state slice holds; and the slice is the
@@ -56,3 +72,86 @@ module _ (size first : ℕ) (state group : List ℕ) (run : List Image) (closed 
       let y = c-returned old answer loans (long .0) (long .1) (lent-enough a) in
       let same = same-reading a (y .accepts) .0 in
       (ap (λ (r : List (List ℕ)). itemsRead run r) same ∙ y .items, ap (λ (r : List (List ℕ)). begunRead run r) same ∙ y .begun)
+
+same-start : (size first : ℕ) (s t : Reader) → readerStartCall size first ≡ start.Started s → readerStartCall size first ≡ start.Started t → s ≡ t
+same-start size first s t e f = begun-at size first s e .1 ∙ sym (begun-at size first t f .1)
+
+-- A start that a lawful layout needs is never refused.
+lays-start : (size first : ℕ) (i : List Item) (b : List ℕ) (run : List Image) → Lays size first i b run → readerStartCall size first ≡ start.Started (fresh size first)
+unfolding readerStartCall startRefusal
+lays-start size first i b run l = rw (l .sized, l .numbered)
+
+-- Demand 3 of any run, whoever wrote it, by what the calls return: `state` and `answer` are the slices that the start is lent.
+module _ (size first : ℕ) (state answer : List ℕ) where
+  -- What is read from C is what the reader's own calls read.
+  pub c-accepts : (run : List Image) (loans : List Loan) (a : AcceptedC size first state answer run loans) → AcceptsOwn size first run loans (a .rows) (a .final)
+  c-accepts = accepts-own size first state answer
+
+  c-lawful : (run : List Image) (loans : List Loan) → Each OfBytes run → (a : AcceptedC size first state answer run loans) →
+      Lays size first (itemsRead run (a .rows)) (begunRead run (a .rows)) run
+  c-lawful run loans b a =
+      let o = c-accepts run loans a in
+      lawful size first (o .reader) (o .starts) run (a .rows) (o .last) b (o .accepts)
+
+  -- A run is accepted to its end, with any slices that are long enough, exactly when some list of records and separators lays out
+  -- to it. (That each image is made of bytes is what a byte slice is.)
+  pub c-exactly : (run : List Image) (loans : List Loan) → Each OfBytes run → length state ≡ readerLength → length answer ≡ answerLength → LentC run loans →
+      AcceptedC size first state answer run loans ↔ ((i : List Item) × ((b : List ℕ) × Lays size first i b run))
+  c-exactly run loans b e f l = (
+    λ a. (itemsRead run (a .rows), (begunRead run (a .rows), c-lawful run loans b a)),
+    λ x.
+        let s = lays-start size first (x .0) (x .1 .0) run (x .1 .1) in
+        let c = complete size first (fresh size first) s (x .0) (x .1 .0) run (numbersLent loans) (x .1 .1) (enough-lent l) in
+        let o = starts-through size first (fresh size first) state answer s e f in
+        let reads = accepted-through (c .accepts) (sound-fresh size first (fresh size first) s) l (c .buffers) in
+        record {
+          starts = ap (λ (y : Left). y .refusal) o;
+          rows = c .rows;
+          final = slice (c .final);
+          accepts = subst (λ (y : Left). AcceptsC (readerLeft y) run loans (c .rows) (slice (c .final))) (sym o) reads;
+        },
+  )
+
+  -- .. and what the numbers in the row slices give is the only such list.
+  pub c-only-one : (run : List Image) (loans : List Loan) → Each OfBytes run → (a : AcceptedC size first state answer run loans) →
+      (i : List Item) (b : List ℕ) → Lays size first i b run → (i ≡ itemsRead run (a .rows)) × (b ≡ begunRead run (a .rows))
+  c-only-one run loans e a i b l = only-one size first i (itemsRead run (a .rows)) b (begunRead run (a .rows)) run l (c-lawful run loans e a)
+
+  -- "A record is finished at its entire entry or at its total, and broken off if the run ends before." So at each group's end.
+  pub c-at-each-end : (beginning rest : List Image) (loans : List Loan) → Each OfBytes (beginning ++ rest) → (a : AcceptedC size first state answer (beginning ++ rest) loans) →
+      AtEndC size first state answer beginning rest loans (a .rows) (a .final)
+  c-at-each-end beginning rest loans b a =
+      let p = split beginning rest (a .accepts) in
+      let c : AcceptedC size first state answer beginning (p .lent) = record { starts = a .starts; rows = p .before; final = p .middle; accepts = p .accepts } in
+      let e = each-before beginning rest b in
+      let l = c-lawful beginning (p .lent) e c in
+      let o = c-accepts beginning (p .lent) c in
+      let holds : o .last ≡ readerOf (p .middle) = sym (held-slice (o .last) (o .sound)) ∙ ap readerOf (o .bytes) in
+      record {
+        parts = p;
+        lays = l;
+        only = λ i d m. c-only-one beginning (p .lent) e c i d m;
+        ends = subst (EndsWith (begunRead beginning (p .before))) holds (state-at-end size first (o .reader) (o .starts) _ _ beginning (p .before) (o .last) l (o .accepts));
+      }
+
+  -- "Taking a matching total as proof of order: only the number tells equal middles apart." Any two groups g and h of a run that C
+  -- reads to its end are exchanged, numbers with them: the read returns 5 at the first place where the order differs, whatever the
+  -- groups hold.
+  pub c-exchanged : (a b c : List Image) (g h : Image) (loans : List Loan) → AcceptedC size first state answer (a ++ (g ∷ (b ++ (h ∷ c)))) loans →
+      OutOfOrderC size first state answer a h (b ++ (g ∷ c))
+  c-exchanged a b c g h loans x =
+      let o = c-accepts (a ++ (g ∷ (b ++ (h ∷ c)))) loans x in
+      let w = exchanged size first (o .reader) (o .starts) a b c g h (x .rows) (o .last) (o .accepts) in
+      let p = split a (g ∷ (b ++ (h ∷ c))) (x .accepts) in
+      record {
+        accepted = (p .lent, record { starts = x .starts; rows = p .before; final = p .middle; accepts = p .accepts });
+        refused = λ lent y rows told long.
+            let q = c-accepts a lent y in
+            let r : Accepts (o .reader) a (y .rows) (q .last) = subst (λ (s : Reader). Accepts s a (y .rows) (q .last)) (same-start size first (q .reader) (o .reader) (q .starts) (o .starts)) (q .accepts) in
+            refused-through (q .last) (y .final) h rows told (q .sound) (q .bytes) long
+            (ap (readCall (q .last) (h .bytes) (h .number) (h .entries)) (sym (length-replicate (length rows / 4) 0))
+            ∙ w .refused (y .rows) (q .last) r (replicate (length rows / 4) 0));
+        never = λ lent y.
+            let q = c-accepts (a ++ (h ∷ (b ++ (g ∷ c)))) lent y in
+            w .never (y .rows) (q .last) (subst (λ (s : Reader). Accepts s (a ++ (h ∷ (b ++ (g ∷ c)))) (y .rows) (q .last)) (same-start size first (q .reader) (o .reader) (q .starts) (o .starts)) (q .accepts));
+      }

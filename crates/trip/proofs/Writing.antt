@@ -1,6 +1,7 @@
 -- Each call of a writing through its slices is the writer's own call on the state that the state slice holds.
 -- Assumes nothing.
 use mathlib.Core.Path.{_≡_, refl, sym, ap, _∙_, subst}
+use mathlib.Core.Logic.{_⊎_, inl, inr}
 use mathlib.Core.Bool.{Bool, true, false, cond}
 use mathlib.Core.List.{List, [], _∷_, _++_}
 use Prim.Native.Nat.{ℕ, _^_, _<_}
@@ -10,7 +11,7 @@ use lib.ListN.{length}
 use Rattle.laying.proofs.Starts.{begun-at as started-at}
 use Rattle.laying.specs.Start.{freshState, writerStartCall}
 use Rattle.numbers.proofs.InBytes.{length-in-bytes, field-of-bytes}
-use Rattle.numbers.specs.Numbers.{inBytes}
+use Rattle.numbers.specs.Numbers.{inBytes, field}
 use Rattle.group.specs.declared.Phase.{Phase}
 use Rattle.group.specs.declared.Phase.the-variants.{Free, Inside, Owed}
 use Rattle.group.specs.Sizes.{informationLength}
@@ -27,10 +28,12 @@ use Rattle.writer.proofs.Theorems.{refusal-told, refused-stays, sound-after, so
 use Rattle.layout.specs.Layout.{Image}
 use Rattle.layout.specs.Writing.{Account, noted, AsAsked, imageOf, Wrote}
 use Rattle.answer.specs.Answer.{numbersTold, refusalTold, ifAccepted}
-use Rattle.slices.specs.Call.{Left, left, answerLength, lengthsKept, called}
-use Rattle.slices.proofs.Calls.{let-through, leaves}
+use Rattle.slices.specs.Call.{Left, left, answerLength, lengthsKept, ofMeaning, called}
+use Rattle.slices.proofs.Calls.{let-through, leaves, c-answers}
 use Rattle.states.specs.States.{writerLength, phaseNumber, phaseMeant, b4Number, b4Meant, writerOf, writerNumbers, writerBytes, writerMeant}
 use Rattle.c_writer.specs.Calls.{ddsWriterStart, written, writing, ddsRecord, ddsSeparator, ddsEnd, writerLeft, groupLeft}
+use Rattle.c_writer.specs.Accepted.{Accepts, CallAccepted}
+use Rattle.c_writer.proofs.Theorems.{record-returns-zero, separator-returns-zero, end-returns-zero}
 use Rattle.states.proofs.StateLaws.{writer-of-bytes, sound-writer-fits}
 use Rattle.trip.specs.ThroughC.{callC, phaseSeen, outcomeSeen, numberSeen, entriesSeen, finishedSeen, closedSeen, WroteC}
 use Rattle.trip.specs.Stated.{Written}
@@ -246,3 +249,23 @@ written-through (WroteC.closes {state} {group} c answer information buffer x q e
 written-through (WroteC.refused c answer x e n) =
     let y = written-through x in
     written-refused y c answer (held-way y c answer e) n
+
+-- An accepted call is seen as finished or as closed, whatever is lent: no other outcome is told.
+seen : {a : WriteAnswer} (answer : List ℕ) → Accepts a → answer ≡ inBytes (numbersTold (told a)) → (field answer 2 ≡ 0) ⊎ (field answer 2 ≡ 1)
+seen answer Accepts.finishes e = inl (ap (λ (b : List ℕ). field b 2) e ∙ field-of-bytes (0 ∷ 0 ∷ 0 ∷ 0 ∷ 0 ∷ 0 ∷ []) 2 (omega arith) (omega arith))
+seen answer (Accepts.closes {s} {number} {entries} {taken}) e =
+    inr (ap (λ (b : List ℕ). field b 2) e ∙ field-of-bytes (0 ∷ 0 ∷ 1 ∷ number ∷ entries ∷ taken ∷ []) 2 (omega arith) (omega arith))
+
+seen-written : (d : Done) (state group : List ℕ) (warn : ℕ) (answer : List ℕ) → CallAccepted d state warn answer →
+    (outcomeSeen (written d state group warn answer) ≡ 0) ⊎ (outcomeSeen (written d state group warn answer) ≡ 1)
+unfolding written
+seen-written d state group warn answer a =
+    seen _ (a .accepts)
+    (c-answers _ _ _ _ answer refl .tells (a .kept) ∙ ap (λ (meant : Bool). inBytes (numbersTold (ofMeaning meant (told (d .answer))))) (a .meant))
+
+pub either-seen : (c : Call) (state group answer : List ℕ) → callC c state group answer .refusal ≡ 0 →
+    (outcomeSeen (callC c state group answer) ≡ 0) ⊎ (outcomeSeen (callC c state group answer) ≡ 1)
+unfolding callC ddsRecord ddsSeparator ddsEnd
+either-seen (aRecord bytes warn) state group answer e = seen-written _ state group _ answer (record-returns-zero state group (b4Number warn) answer bytes .0 e)
+either-seen (aSeparator value warn) state group answer e = seen-written _ state group _ answer (separator-returns-zero state group (b4Number warn) answer value .0 e)
+either-seen (anEnd warn) state group answer e = seen-written _ state group _ answer (end-returns-zero state group (b4Number warn) answer .0 e)

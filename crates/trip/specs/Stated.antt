@@ -1,19 +1,27 @@
--- What the theorems of this crate state: a writing from C as the writer's own, and a run that is read back from C.
+-- What the theorems of this crate state: a writing from C as the writer's own, a run that is read back from C, a reading from C as
+-- the reader's own, a run at a group's end, and a run out of order.
 -- Assumes nothing.
 use Prim.Native.Nat.{ℕ}
-use mathlib.Core.List.{List}
+use mathlib.Core.List.{List, [], _∷_, _++_}
 use mathlib.Core.Bool.{true}
 use mathlib.Core.Path.{_≡_}
+use lib.ListN.{length}
 use Rattle.numbers.specs.Numbers.{inBytes}
+use Rattle.reader.specs.declared.Reader.{Reader}
+use Rattle.reader.specs.declared.ReaderStart.the-variants.{Started}
+use Rattle.reader.specs.Answer.{sound as readerSound, readerStartCall}
 use Rattle.sound.specs.State.{writerSound}
 use Rattle.laying.specs.Laying.{desk}
-use Rattle.layout.specs.Layout.{Image}
+use Rattle.layout.specs.Items.{Item}
+use Rattle.layout.specs.Layout.{Image, Lays}
+use Rattle.layout.specs.Accepting.{Accepts, lentTo}
 use Rattle.layout.specs.Reading.{itemsRead, begunRead}
 use Rattle.layout.specs.Stated.{EndsWith}
 use Rattle.layout.specs.Writing.{Account, Wrote}
-use Rattle.states.specs.States.{readerOf, writerOf, writerNumbers}
-use Rattle.c_reader.specs.Calls.{ddsReaderStart, readerLeft}
-use Rattle.trip.specs.ThroughC.{Loan, AcceptsC}
+use Rattle.slices.specs.Call.{left, answerLength}
+use Rattle.states.specs.States.{readerOf, readerBytes, writerOf, writerNumbers}
+use Rattle.c_reader.specs.Calls.{ddsReaderStart, ddsRead, readerLeft}
+use Rattle.trip.specs.ThroughC.{Loan, numbersLent, AcceptsC}
 
 -- The state slice is the bytes of a sound state, and with that state the writer's own calls wrote the same.
 pub record Written (size first : ℕ) (state group : List ℕ) (run : List Image) (closed now : Account) : Type 0 where
@@ -32,3 +40,49 @@ pub record GivesBackC (size first : ℕ) (state answer : List ℕ) (run : List I
   pub items : itemsRead run rows ≡ a .finished
   pub begun : begunRead run rows ≡ a .begun
   pub ends : EndsWith (a .begun) (readerOf final)
+
+-- A run that C reads to its end, whoever wrote it: the start returned 0, and from the state slice that it left every read did, lent
+-- just these slices.
+pub record AcceptedC (size first : ℕ) (state answer : List ℕ) (run : List Image) (loans : List Loan) : Type 0 where
+  pub starts : ddsReaderStart size first state answer .refusal ≡ 0
+  pub rows : List (List ℕ)
+  pub final : List ℕ
+  pub accepts : AcceptsC (readerLeft (ddsReaderStart size first state answer)) run loans rows final
+
+-- The reader's own start and its own reads accept the same run, lent row buffers of just the numbers that stand in the row slices, and
+-- leave the same rows; and the last state slice is the bytes of the state that they leave, which is sound.
+pub record AcceptsOwn (size first : ℕ) (run : List Image) (loans : List Loan) (rows : List (List ℕ)) (final : List ℕ) : Type 0 where
+  pub reader : Reader
+  pub starts : readerStartCall size first ≡ Started reader
+  pub last : Reader
+  pub accepts : Accepts reader run rows last
+  pub buffers : lentTo accepts ≡ numbersLent loans
+  pub sound : readerSound last ≡ true
+  pub bytes : readerBytes last ≡ final
+
+-- A reading from C at the end of one of its groups: the loans and the rows up to there and behind it, and the state slice.
+pub record SplitC (state : List ℕ) (beginning rest : List Image) (loans : List Loan) (rows : List (List ℕ)) (final : List ℕ) : Type 0 where
+  pub lent : List Loan
+  pub later : List Loan
+  pub before : List (List ℕ)
+  pub behind : List (List ℕ)
+  pub middle : List ℕ
+  pub loans-are : lent ++ later ≡ loans
+  pub rows-are : before ++ behind ≡ rows
+  pub accepts : AcceptsC state beginning lent before middle
+  pub goes-on : AcceptsC middle rest later behind final
+
+-- .. and there what the rows of the beginning give is a lawful layout of it, and the only one.
+pub record AtEndC (size first : ℕ) (state answer : List ℕ) (beginning rest : List Image) (loans : List Loan) (rows : List (List ℕ)) (final : List ℕ) : Type 0 where
+  pub parts : SplitC (readerLeft (ddsReaderStart size first state answer)) beginning rest loans rows final
+  pub lays : Lays size first (itemsRead beginning (parts .before)) (begunRead beginning (parts .before)) beginning
+  pub only : (i : List Item) (b : List ℕ) → Lays size first i b beginning → (i ≡ itemsRead beginning (parts .before)) × (b ≡ begunRead beginning (parts .before))
+  pub ends : EndsWith (begunRead beginning (parts .before)) (readerOf (parts .middle))
+
+-- A run that is refused with 5 at its group h: the groups before it are accepted; after them, whatever rows are lent, the read of h
+-- returns 5 and tells 5 with place 0, and leaves the state and the rows; and the run as a whole is never accepted.
+pub record OutOfOrderC (size first : ℕ) (state answer : List ℕ) (beginning : List Image) (h : Image) (rest : List Image) : Type 0 where
+  pub accepted : (loans : List Loan) × AcceptedC size first state answer beginning loans
+  pub refused : (loans : List Loan) (a : AcceptedC size first state answer beginning loans) (rows told : List ℕ) → length told ≡ answerLength →
+      ddsRead (a .final) (h .bytes) (h .number) (h .entries) rows told ≡ left 5 (a .final ∷ rows ∷ []) (inBytes (5 ∷ 0 ∷ 0 ∷ 0 ∷ 0 ∷ 0 ∷ []))
+  pub never : (loans : List Loan) → AcceptedC size first state answer (beginning ++ (h ∷ rest)) loans → ⊥

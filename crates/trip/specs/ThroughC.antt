@@ -85,6 +85,11 @@ pub data LentC : List Image → List Loan → Type 0 where
   lent-more : {g : Image} {gs : List Image} {loan : Loan} {loans : List Loan} →
       12 * g .entries ≤ length (loan .rows) → length (loan .answer) ≡ answerLength → LentC gs loans → LentC (g ∷ gs) (loan ∷ loans)
 
+-- The numbers that stand in the row slices as they are lent.
+abbrev pub numbersLent : List Loan → List (List ℕ)
+numbersLent [] = []
+numbersLent (loan ∷ loans) = numbersIn (loan .rows) ∷ numbersLent loans
+
 -- A reading from C, from a state slice over a run to a state slice: each read is lent its loan, returns 0, and leaves rows
 -- whose numbers are listed.
 pub data AcceptsC : List ℕ → List Image → List Loan → List (List ℕ) → List ℕ → Type 0 where

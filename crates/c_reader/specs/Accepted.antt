@@ -1,0 +1,26 @@
+-- Document 01, "What the box holds": "Each call returns the number, 0 if accepted." When a reader's start and a read are accepted.
+-- Assumes nothing.
+use Prim.Native.Nat.{ℕ, _/_}
+use mathlib.Core.Path.{_≡_}
+use mathlib.Core.Bool.{true}
+use mathlib.Core.List.{List}
+use lib.ListN.{length}
+use Rattle.reader.specs.declared.Reader.{Reader}
+use Rattle.reader.specs.declared.ReaderStart.the-variants.{Started}
+use Rattle.reader.specs.declared.ReadAnswer.the-variants.{Accepted}
+use Rattle.reader.specs.Answer.{fresh, readerStartCall, readCall}
+use Rattle.slices.specs.Call.{lengthsKept}
+use Rattle.states.specs.States.{readerLength, readerOf, readerMeant}
+
+-- The slices are of their lengths, and the reader's own start starts.
+pub record StartAccepted (size first : ℕ) (state answer : List ℕ) : Type 0 where
+  pub kept : lengthsKept (length state) readerLength (length answer) ≡ true
+  pub starts : readerStartCall size first ≡ Started (fresh size first)
+
+-- The slices are of their lengths, the free / inside / owed number has a meaning, and the reader's own read of the state that the
+-- slice holds accepts the group.
+pub record ReadAccepted (state group : List ℕ) (number n : ℕ) (rows answer : List ℕ) : Type 0 where
+  pub kept : lengthsKept (length state) readerLength (length answer) ≡ true
+  pub meant : readerMeant state ≡ true
+  pub left : Reader
+  pub accepts : readCall (readerOf state) group number n (length rows / 4) ≡ Accepted left
