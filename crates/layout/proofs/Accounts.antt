@@ -331,3 +331,9 @@ unfolding call recordCall separatorCall endCall
 as-given (aRecord bs warn) w = given-guard w _ _ (given-record w (w .state .phase) bs (ready warn w))
 as-given (aSeparator value warn) w = given-guard w _ _ (given-separator w (separator-laid value (ready warn w)))
 as-given (anEnd warn) w = given-guard w _ _ (given-end w (end-laid warn w))
+
+-- A refused call answers the state as given.
+pub as-came : (w : Desk) (a : WriteAnswer) (g : List ℕ) (s : Writer) (refusal : ℕ) → AsGiven w a g → a ≡ Refused s refusal → w .state ≡ s
+as-came w a g s refusal AsGiven.given-refused e = cc
+as-came w a g s refusal AsGiven.given-finished e = let z : _≡_ {A = ℕ} 0 1 = cc in absurd (omega arith)
+as-came w a g s refusal AsGiven.given-closed e = let z : _≡_ {A = ℕ} 0 1 = cc in absurd (omega arith)

@@ -20,7 +20,7 @@ use Rattle.group.proofs.EntryLaws.{length-entry, length-table}
 use Rattle.laying.specs.Bounds.{span}
 use Rattle.layout.specs.Items.{Piece}
 use Rattle.layout.specs.Layout.{kindOf, countOf, dataOf, userData, entriesOf, b4After, plainLeft, Image, Pictures}
-use Rattle.layout.specs.Writing.{imageOf}
+use Rattle.layout.specs.Writing.{withInformation, imageOf}
 
 -- Lists.
 
@@ -188,6 +188,26 @@ pub record Buffered (size filled entries : ℕ) (warned : Bool) (g : List ℕ) (
 pub buffered-fresh : {size : ℕ} {g : List ℕ} → informationLength ≤ size → length g ≡ size → Buffered size 0 0 false g []
 unfolding userData tableBytes heads
 buffered-fresh h e = record { plain = 0; flagged = clear; counted = refl; reached = refl; shape = shape-fresh h e }
+
+-- .. and the same buffer with other last 32 bytes.
+pub buffered-changed : {size filled entries : ℕ} {warned : Bool} {g : List ℕ} {ps : List Piece} (information : List ℕ) → length information ≡ informationLength →
+    Buffered size filled entries warned g ps → Buffered size filled entries warned (withInformation g information) ps
+buffered-changed {g = g} information i b =
+    let s = b .shape in
+    record {
+      plain = b .plain;
+      flagged = b .flagged;
+      counted = b .counted;
+      reached = b .reached;
+      shape =
+          record {
+            gap = s .gap;
+            information = information;
+            thirtyTwo = i;
+            adds = s .adds;
+            stands = ap (λ (n : ℕ). take (n - informationLength) g ++ information) (shape-length s) ∙ shape-filled s information;
+          };
+    }
 
 length-heads-table : (plain : ℕ) (ps : List Piece) → length (tableBytes (heads plain ps)) ≡ 4 * length ps
 length-heads-table plain ps = length-table (heads plain ps) ∙ ap (λ (n : ℕ). 4 * n) (length-heads plain ps)

@@ -11,7 +11,7 @@ use Rattle.answer.specs.Answer.{refusalTold}
 use Rattle.group.specs.declared.Phase.{Phase}
 use Rattle.group.specs.declared.Phase.the-variants as phase
 use Rattle.laying.specs.declared.Writer.{Writer}
-use Rattle.laying.specs.Laying.{Desk, layEntry, layData, layPart, moved, ready}
+use Rattle.laying.specs.Laying.{Desk, desk, layEntry, layData, layPart, moved, ready}
 use Rattle.sound.specs.State.{isOwed, endsEmpty}
 use Rattle.sound.proofs.Accepted.{ends-empty}
 use Rattle.writer.specs.declared.WriteAnswer.{WriteAnswer}
@@ -21,9 +21,9 @@ use Rattle.writer.specs.Calls.Call.{aRecord, aSeparator, anEnd}
 use Rattle.writer.proofs.CallLaws.{RecordedFree, recorded-free, RecordedInside, recorded-inside, SeparatorLaid, separator-laid, EndLaid, end-laid}
 use Rattle.writer.proofs.Theorems.{end-empties}
 use Rattle.layout.specs.Layout.{Image}
-use Rattle.layout.specs.Writing.{Account, totalLaid, noted, Wrote, begins, goes-on, closes, refused, WasEnded}
+use Rattle.layout.specs.Writing.{Account, totalLaid, noted, Wrote, begins, goes-on, closes, refused, changed, WasEnded}
 use Rattle.layout.specs.WritingStated.{GivesBack, AllClosed}
-use Rattle.layout.proofs.Accounts.{AsGiven, as-given}
+use Rattle.layout.proofs.Accounts.{as-given, as-came}
 use Rattle.layout.proofs.Returned.{none-begun, gives-back}
 
 -- A call that finishes has laid an entry,
@@ -90,17 +90,14 @@ goes closed now (anEnd warn) w s h e z =
     let g : Same (w .state) (Finished s) = subst (Same (w .state)) e (guarded (Same (w .state)) _ w _ tt (same-end (end-laid warn w))) in
     h (ap (λ (t : Writer). t .entries) (sym (g .0)) ∙ z) ∙ sym (unowed (w .state .phase) (ends-empty (w .state) (g .1) .0) now)
 
-as-came : (w : Desk) (a : WriteAnswer) (g : List ℕ) (s : Writer) (refusal : ℕ) → AsGiven w a g → a ≡ Refused s refusal → w .state ≡ s
-as-came w a g s refusal AsGiven.given-refused e = cc
-as-came w a g s refusal AsGiven.given-finished e = let z : _≡_ {A = ℕ} 0 1 = cc in absurd (omega arith)
-as-came w a g s refusal AsGiven.given-closed e = let z : _≡_ {A = ℕ} 0 1 = cc in absurd (omega arith)
-
 -- Where no entry stands in the open group, the account at the last close is the account now.
 pub none-waits : {size first : ℕ} {w : Desk} {run : List Image} {closed now : Account} → Wrote size first w run closed now → w .state .entries ≡ 0 → closed ≡ now
 none-waits (begins e l) z = refl
 none-waits (goes-on {w} {s} {closed = was} {now = now} c x asked e) z = goes was now c w s (λ y. none-waits x y) e z
 none-waits (closes c information g x asked e i l) z = refl
-none-waits (refused {w} {s} {refusal} c x e) z = none-waits x (ap (λ (t : Writer). t .entries) (as-came w _ _ s refusal (as-given c w) e) ∙ z)
+none-waits (refused {w} {s} {refusal} c lent x e) z =
+    none-waits x (ap (λ (t : Writer). t .entries) (as-came (desk (w .state) lent) _ _ s refusal (as-given c (desk (w .state) lent)) e) ∙ z)
+none-waits (changed information x i) z = none-waits x z
 
 -- After an accepted end no entry stands, and the writer is free.
 abbrev Rests : Writer → Type 0
@@ -115,7 +112,8 @@ rests (goes-on {w} {s} (anEnd warn) x asked e) h = subst (λ (a : WriteAnswer). 
 rests (closes (aRecord bs warn) information g x asked e i l) h = absurd h
 rests (closes (aSeparator value warn) information g x asked e i l) h = absurd h
 rests (closes {w} {s} (anEnd warn) information g x asked e i l) h = subst (λ (a : WriteAnswer). refusalTold (told a) ≡ 0 → Rests (stateOf a)) e (end-empties warn w) refl
-rests (refused {w} {s} {refusal} c x e) h = subst Rests (as-came w _ _ s refusal (as-given c w) e) (rests x h)
+rests (refused {w} {s} {refusal} c lent x e) h = subst Rests (as-came (desk (w .state) lent) _ _ s refusal (as-given c (desk (w .state) lent)) e) (rests x h)
+rests (changed information x i) h = rests x h
 
 pub all-closed : {size first : ℕ} {w : Desk} {run : List Image} {closed now : Account} (x : Wrote size first w run closed now) → WasEnded x → AllClosed size first w run closed now
 all-closed {size} {first} {w} {run} {closed} {now} x h =

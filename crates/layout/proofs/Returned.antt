@@ -28,8 +28,8 @@ use Rattle.layout.specs.Layout.{Image, Run, Lays}
 use Rattle.layout.specs.Layout.Run.{run-none}
 use Rattle.layout.specs.Accepting.{Lent}
 use Rattle.layout.specs.Reading.{itemsAfter, begunAfter}
-use Rattle.layout.specs.Writing.{Account, blank, afterRecord, noted, AsAsked, imageOf, Wrote}
-use Rattle.layout.specs.Writing.Wrote.{begins, goes-on, closes, refused}
+use Rattle.layout.specs.Writing.{Account, blank, afterRecord, noted, AsAsked, withInformation, imageOf, Wrote}
+use Rattle.layout.specs.Writing.Wrote.{begins, goes-on, closes, refused, changed}
 use Rattle.layout.specs.WritingStated.{GivesBack}
 use Rattle.layout.proofs.Assembled.{flat}
 use Rattle.layout.proofs.Grammar.{Walk}
@@ -37,15 +37,16 @@ use Rattle.layout.proofs.Grammar.Walk.{stop}
 use Rattle.layout.proofs.Complete.{begins-at, complete-to, ends-with}
 use Rattle.layout.proofs.OnlyOne.{reading-is}
 use Rattle.layout.proofs.Sound.{lays-run}
-use Rattle.layout.proofs.Buffer.{buffered-fresh}
-use Rattle.layout.proofs.Accounts.{Hand, Kept, Said, after-call, AsGiven, as-given}
+use Rattle.layout.proofs.Buffer.{buffered-fresh, buffered-changed}
+use Rattle.layout.proofs.Accounts.{Hand, Kept, Said, after-call, as-given, as-came}
 
 -- A writing was started.
 pub wrote-started : {size first : ℕ} {w : Desk} {run : List Image} {closed now : Account} → Wrote size first w run closed now → startRefusal size first ≡ 0
 wrote-started {size} {first} (begins {s} e l) = begun-at size first s e .0
 wrote-started (goes-on c x q e) = wrote-started x
 wrote-started (closes c information g x q e i j) = wrote-started x
-wrote-started (refused c x e) = wrote-started x
+wrote-started (refused c lent x e) = wrote-started x
+wrote-started (changed information x i) = wrote-started x
 
 -- What is kept at each step of a writing.
 module _ {size first : ℕ} {run : List Image} {note : WriteAnswer → Account} where
@@ -60,8 +61,25 @@ module _ {size first : ℕ} {run : List Image} {note : WriteAnswer → Account} 
   emptied : {s : Writer} {number entries taken : ℕ} {g : List ℕ} → Said size first run note (Closed s number entries taken) g → s .entries ≡ 0
   emptied (Said.closes e k) = e
 
-kept-given : {size first : ℕ} {w : Desk} {run : List Image} {a : Account} {s : Writer} {refusal : ℕ} {g : List ℕ} → AsGiven w (Refused s refusal) g → Kept size first w run a → Kept size first (desk s g) run a
-kept-given AsGiven.given-refused k = k
+kept-changed : {size first : ℕ} {w : Desk} {run : List Image} {a : Account} (information : List ℕ) → length information ≡ informationLength → Kept size first w run a →
+    Kept size first (desk (w .state) (withInformation (w .group) information)) run a
+kept-changed information i k =
+    let h = k .holds in
+    record {
+      sized = k .sized;
+      holds =
+          record {
+            groups = h .groups;
+            pieces = h .pieces;
+            numbered = h .numbered;
+            images = h .images;
+            walks = h .walks;
+            finishes = h .finishes;
+            breaks = h .breaks;
+            stands = buffered-changed information i (h .stands);
+          };
+      hand = k .hand;
+    }
 
 answered : {size first : ℕ} {w : Desk} {run : List Image} {a : Account} {o : WriteAnswer} (c : Call) → Kept size first w run a → AsAsked c (w .state .phase) a → call c w .answer ≡ o →
     Said size first run (λ x. noted c (w .state .phase) x a) o (call c w .group)
@@ -91,7 +109,9 @@ kept : {size first : ℕ} {w : Desk} {run : List Image} {closed now : Account} �
 kept (begins e l) = kept-start e l
 kept (goes-on c x q e) = kept-finished (answered c (kept x) q e)
 kept (closes c information g x q e i j) = kept-closed (answered c (kept x) q e) information g i j
-kept (refused {w} c x e) = kept-given (subst (λ (o : WriteAnswer). AsGiven w o (call c w .group)) e (as-given c w)) (kept x)
+kept {size} {first} {run = run} {now = now} (refused {w} {s} {refusal} c lent x e) =
+    subst (λ (t : Writer). Kept size first (desk t (w .group)) run now) (as-came (desk (w .state) lent) _ _ s refusal (as-given c (desk (w .state) lent)) e) (kept x)
+kept (changed information x i) = kept-changed information i (kept x)
 
 -- At the last close, or at the start: the groups of the run, the phase that they leave, and the account.
 pub record AtClose (size first : ℕ) (run : List Image) (a : Account) : Type 0 where
@@ -133,7 +153,8 @@ pub at-close : {size first : ℕ} {w : Desk} {run : List Image} {closed now : Ac
 at-close {size} {first} (begins {g} e l) = whole (kept-start {g = g} e l) (started-empty size first e)
 at-close (goes-on c x q e) = at-close x
 at-close (closes c information g x q e i j) = whole (kept (closes c information g x q e i j)) (emptied (answered c (kept x) q e))
-at-close (refused c x e) = at-close x
+at-close (refused c lent x e) = at-close x
+at-close (changed information x i) = at-close x
 
 -- What the writer closed so far is a lawful layout of the account at the last close.
 pub closed-lays : {size first : ℕ} {w : Desk} {run : List Image} {closed now : Account} → Wrote size first w run closed now → Lays size first (closed .finished) (closed .begun) run

@@ -31,9 +31,9 @@ owed-at-end =
       desk = _;
       run = _;
       wrote =
-          refused (aRecord [] false)
+          refused (aRecord [] false) (replicate 64 8)
           (closes (aRecord (from 25 21) false) (replicate 32 7) (replicate 64 8)
-          (refused (anEnd true)
+          (refused (anEnd true) (replicate 63 4)
           (closes (aRecord (from 1 45) true) (replicate 32 5) (replicate 64 1) (begins {g = replicate 64 0xEE} refl refl) tt refl refl refl)
           refl) refl refl refl refl) refl;
       many = refl;

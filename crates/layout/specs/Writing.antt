@@ -67,14 +67,18 @@ AsAsked (aRecord bytes warn) Owed a = Unit {0}
 AsAsked (aSeparator value warn) phase a = Unit {0}
 AsAsked (anEnd warn) phase a = Unit {0}
 
--- A group as it was closed, its last 32 bytes the firmware's.
-unfoldable pub imageOf : ℕ → ℕ → List ℕ → List ℕ → Image
-imageOf number entries group information =
-    record { number = number; entries = entries; bytes = take (length group - informationLength) group ++ information }
+-- "We neither read nor write those 32 bytes": a group with these last 32 bytes, the firmware's.
+abbrev pub withInformation : (group information : List ℕ) → List ℕ
+withInformation group information = take (length group - informationLength) group ++ information
+
+-- A group as it was closed.
+unfoldable pub imageOf : (number entries : ℕ) (group information : List ℕ) → Image
+imageOf number entries group information = record { number = number; entries = entries; bytes = withInformation group information }
 
 -- From the start call's own answer: the desk as it is now, the run closed so far, the account at the last close, and the
--- account now. A call that finishes its work, or is refused, leaves the desk to the next call; after a close the next call
--- may come with any buffer of the right length.
+-- account now. A call that finishes its work leaves the desk to the next call, and one that is refused leaves it as it was, whatever
+-- buffer it was lent. Between calls the firmware may change the group's last 32 bytes. After a close the next call may come with any
+-- buffer of the right length.
 pub data Wrote (size first : ℕ) : Desk → List Image → Account → Account → Type 0 where
   begins : {s : Writer} {g : List ℕ} → writerStartCall size first ≡ start.Started s → length g ≡ size → Wrote size first (desk s g) [] blank blank
   goes-on : {w : Desk} {s : Writer} {run : List Image} {closed now : Account} (c : Call) → Wrote size first w run closed now →
@@ -85,8 +89,10 @@ pub data Wrote (size first : ℕ) : Desk → List Image → Account → Account 
       length information ≡ informationLength → length g ≡ size →
       Wrote size first (desk s g) (run ++ (imageOf number entries (call c w .group) information ∷ []))
       (noted c (w .state .phase) (Closed s number entries taken) now) (noted c (w .state .phase) (Closed s number entries taken) now)
-  refused : {w : Desk} {s : Writer} {refusal : ℕ} {run : List Image} {closed now : Account} (c : Call) → Wrote size first w run closed now →
-      call c w .answer ≡ Refused s refusal → Wrote size first (desk s (call c w .group)) run closed now
+  refused : {w : Desk} {s : Writer} {refusal : ℕ} {run : List Image} {closed now : Account} (c : Call) (lent : List ℕ) →
+      Wrote size first w run closed now → call c (desk (w .state) lent) .answer ≡ Refused s refusal → Wrote size first (desk s (w .group)) run closed now
+  changed : {w : Desk} {run : List Image} {closed now : Account} (information : List ℕ) → Wrote size first w run closed now →
+      length information ≡ informationLength → Wrote size first (desk (w .state) (withInformation (w .group) information)) run closed now
 
 -- "End": whether a call is one.
 abbrev pub IsEnd : Call → Type 0
@@ -99,4 +105,5 @@ unfoldable pub WasEnded : {size first : ℕ} {w : Desk} {run : List Image} {clos
 WasEnded (begins e l) = ⊥
 WasEnded (goes-on c x asked e) = IsEnd c
 WasEnded (closes c information g x asked e i l) = IsEnd c
-WasEnded (refused c x e) = WasEnded x
+WasEnded (refused c lent x e) = WasEnded x
+WasEnded (changed information x i) = WasEnded x

@@ -19,7 +19,7 @@ use Rattle.layout.proofs.Bench.{opens}
 use Rattle.slices.specs.Call.{lengthsKept, called}
 use Rattle.states.specs.States.{writerOf, writerMeant}
 use Rattle.c_writer.specs.Calls.{ddsWriterStart, written, ddsRecord, ddsSeparator, ddsEnd}
-use Rattle.trip.specs.ThroughC.{callC, Loan, LentC, WroteC}
+use Rattle.trip.specs.ThroughC.{callC, recordC, endC, askedC, Loan, LentC, WroteC}
 use Rattle.trip.specs.ThroughC.WroteC.{begins, goes-on, closes, refused}
 use Rattle.trip.specs.Stated.{GivesBackC}
 use Rattle.trip.proofs.Theorems.{c-returned}
@@ -42,7 +42,7 @@ loan long = record { rows = replicate long 0xAA; answer = replicate 24 0xBB }
 -- and the answer slices hold anything; one answer slice is a byte short, and one record empty.
 pub spanned : Shows 3 (record { finished = recordItem (from 1 45) ∷ separatorItem 1 ∷ []; begun = []; asked = [] })
     (record { finished = recordItem (from 1 45) ∷ separatorItem 1 ∷ []; begun = []; asked = [] })
-unfolding opens blank totalLaid inHand afterRecord afterSeparator noted imageOf from inBytes stateOf lengthsKept writerOf writerMeant called ddsWriterStart written ddsRecord ddsSeparator ddsEnd callC
+unfolding opens blank totalLaid inHand afterRecord afterSeparator noted imageOf from inBytes stateOf lengthsKept writerOf writerMeant called ddsWriterStart written ddsRecord ddsSeparator ddsEnd callC askedC
 spanned =
     record {
       state = _;
@@ -52,8 +52,8 @@ spanned =
           closes (anEnd false) (replicate 24 6) (replicate 32 9) (replicate 64 2)
           (goes-on (aSeparator 1 true) (replicate 24 7)
           (closes (aRecord (from 25 21) false) (replicate 24 0) (replicate 32 7) (replicate 64 8)
-          (refused (anEnd true) (replicate 23 5)
-          (refused (aRecord [] false) (replicate 24 5)
+          (refused (endC 1) (replicate 63 4) (replicate 23 5)
+          (refused (recordC [] 2) (replicate 64 3) (replicate 24 5)
           (closes (aRecord (from 1 45) true) (replicate 24 0xFF) (replicate 32 5) (replicate 64 1)
           (begins (replicate 32 0xEE) (replicate 24 0xDD) (replicate 64 0xEE) refl refl refl)
           tt refl refl refl refl refl)

@@ -7,7 +7,7 @@ use mathlib.Core.List.{List, [], _∷_, _++_}
 use Prim.Native.Nat.{ℕ, _^_, _<_}
 use native.Mathlib.Omega.{arith}
 use lib.Dec.{eqb}
-use lib.ListN.{length}
+use lib.ListN.{length, getD}
 use Rattle.laying.proofs.Starts.{begun-at as started-at}
 use Rattle.laying.specs.Start.{freshState, writerStartCall}
 use Rattle.numbers.proofs.InBytes.{length-in-bytes, field-of-bytes}
@@ -29,13 +29,13 @@ use Rattle.layout.specs.Layout.{Image}
 use Rattle.layout.specs.Writing.{Account, noted, AsAsked, imageOf, Wrote}
 use Rattle.answer.specs.Answer.{numbersTold, refusalTold, ifAccepted}
 use Rattle.slices.specs.Call.{Left, left, answerLength, lengthsKept, ofMeaning, called}
-use Rattle.slices.proofs.Calls.{let-through, leaves, c-answers}
+use Rattle.slices.proofs.Calls.{let-through, leaves, c-answers, refused-leaves}
 use Rattle.states.specs.States.{writerLength, phaseNumber, phaseMeant, b4Number, b4Meant, writerOf, writerNumbers, writerBytes, writerMeant}
 use Rattle.c_writer.specs.Calls.{ddsWriterStart, written, writing, ddsRecord, ddsSeparator, ddsEnd, writerLeft, groupLeft}
 use Rattle.c_writer.specs.Accepted.{Accepts, CallAccepted}
 use Rattle.c_writer.proofs.Theorems.{record-returns-zero, separator-returns-zero, end-returns-zero}
 use Rattle.states.proofs.StateLaws.{writer-of-bytes, sound-writer-fits}
-use Rattle.trip.specs.ThroughC.{callC, phaseSeen, outcomeSeen, numberSeen, entriesSeen, finishedSeen, closedSeen, WroteC}
+use Rattle.trip.specs.ThroughC.{callC, CallC, recordC, separatorC, endC, askedC, phaseSeen, outcomeSeen, numberSeen, entriesSeen, finishedSeen, closedSeen, WroteC}
 use Rattle.trip.specs.Stated.{Written}
 use Rattle.trip.proofs.Told.{Tells, TellsStart, call-tells, start-tells}
 
@@ -222,15 +222,15 @@ module _ {size first : ℕ} {state group : List ℕ} {run : List Image} {closed 
         bytes = s .bytes;
       }
 
-  -- A call that returned another number than 0 left state and group as they were, and the writer's own call, if it was made, refused.
-  written-refused : (c : Call) (answer : List ℕ) {o : Left} → Way (call c (desk (writerOf state) group)) state group answer o → (o .refusal ≡ 0 → ⊥) →
-      Written size first (writerLeft o) (groupLeft o) run closed now
-  written-refused c answer turned-away n = x
-  written-refused c answer made n =
-      let w = desk (writerOf state) group in
-      let r = refusal-told c w in
-      let same : call c w ≡ done (Refused (w .state) (refusalOf c w)) (w .group) = refused-stays c w (λ e. n (r ∙ e)) in
-      subst (λ (d : Done). Written size first (writerLeft (own d state group)) (groupLeft (own d state group)) run closed now) (sym same) x
+-- A call that returned another number than 0 left the state as it was, whatever else it was lent.
+abbrev first-slice : List (List ℕ) → List ℕ
+first-slice slices = getD slices 0 []
+
+state-stays : (c : CallC) (state lent answer : List ℕ) {o : Left} → askedC c state lent answer ≡ o → (o .refusal ≡ 0 → ⊥) → writerLeft o ≡ state
+unfolding askedC ddsRecord ddsSeparator ddsEnd written
+state-stays (recordC bytes warn) state lent answer e n = ap first-slice (refused-leaves _ _ _ _ answer (sym e) n)
+state-stays (separatorC value warn) state lent answer e n = ap first-slice (refused-leaves _ _ _ _ answer (sym e) n)
+state-stays (endC warn) state lent answer e n = ap first-slice (refused-leaves _ _ _ _ answer (sym e) n)
 
 -- The whole of a writing.
 pub written-through : {size first : ℕ} {state group : List ℕ} {run : List Image} {closed now : Account} → WroteC size first state group run closed now →
@@ -246,9 +246,11 @@ written-through (WroteC.closes {state} {group} c answer information buffer x q e
     let y = written-through x in
     let w = desk (writerOf state) group in
     written-closed y c information buffer q (step-closed (call-tells c w) (sound-after c w) (held-way y c answer e) n f) i j
-written-through (WroteC.refused c answer x e n) =
+written-through {size} {first} {group = group} {run} {closed} {now} (WroteC.refused {state} c lent answer x e n) =
+    subst (λ (s : List ℕ). Written size first s group run closed now) (sym (state-stays c state lent answer e n)) (written-through x)
+written-through (WroteC.changed information x i) =
     let y = written-through x in
-    written-refused y c answer (held-way y c answer e) n
+    record { wrote = Wrote.changed information (y .wrote) i; sound = y .sound; bytes = y .bytes }
 
 -- An accepted call is seen as finished or as closed, whatever is lent: no other outcome is told.
 seen : {a : WriteAnswer} (answer : List ℕ) → Accepts a → answer ≡ inBytes (numbersTold (told a)) → (field answer 2 ≡ 0) ⊎ (field answer 2 ≡ 1)

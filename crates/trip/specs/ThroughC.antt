@@ -13,7 +13,7 @@ use Rattle.writer.specs.declared.WriteAnswer.the-variants.{Finished, Closed}
 use Rattle.writer.specs.Calls.{Call}
 use Rattle.writer.specs.Calls.Call.{aRecord, aSeparator, anEnd}
 use Rattle.layout.specs.Layout.{Image}
-use Rattle.layout.specs.Writing.{Account, blank, noted, AsAsked, imageOf}
+use Rattle.layout.specs.Writing.{Account, blank, noted, AsAsked, withInformation, imageOf}
 use Rattle.slices.specs.Call.{Left, answerLength}
 use Rattle.states.specs.States.{phaseOf, b4Number, writerOf}
 use Rattle.c_reader.specs.Calls.{ddsRead, readerLeft, rowsRead}
@@ -24,6 +24,17 @@ unfoldable pub callC : Call → (state group answer : List ℕ) → Left
 callC (aRecord bytes warn) state group answer = ddsRecord state group bytes (b4Number warn) answer
 callC (aSeparator value warn) state group answer = ddsSeparator state group value (b4Number warn) answer
 callC (anEnd warn) state group answer = ddsEnd state group (b4Number warn) answer
+
+-- A call as C may make it: `warn` is any number.
+pub data CallC : Type 0 where
+  recordC : (bytes : List ℕ) (warn : ℕ) → CallC
+  separatorC : (value warn : ℕ) → CallC
+  endC : (warn : ℕ) → CallC
+
+unfoldable pub askedC : CallC → (state group answer : List ℕ) → Left
+askedC (recordC bytes warn) state group answer = ddsRecord state group bytes warn answer
+askedC (separatorC value warn) state group answer = ddsSeparator state group value warn answer
+askedC (endC warn) state group answer = ddsEnd state group warn answer
 
 -- The phase that the caller sees: the third number of the state slice.
 abbrev pub phaseSeen : List ℕ → Phase
@@ -55,8 +66,9 @@ closedSeen o = Closed (writerOf (writerLeft o)) (numberSeen o) (entriesSeen o) (
 
 -- A writing from C: the state slice and the group as they are now, the run closed so far, the account at the last close, and
 -- the account now. The state slice at the start and every answer slice may be any: one of another length than its own is
--- refused. A call that returned a number other than 0 leaves the account as it was. After a close the next call may come with
--- any buffer of the right length.
+-- refused. A call that returned a number other than 0 leaves the account as it was, whatever its `warn` and whatever group it was
+-- lent. Between calls the firmware may change the group's last 32 bytes. After a close the next call may come with any buffer of the
+-- right length.
 pub data WroteC (size first : ℕ) : List ℕ → List ℕ → List Image → Account → Account → Type 0 where
   begins : {o : Left} (state answer group : List ℕ) → ddsWriterStart size first state answer ≡ o → o .refusal ≡ 0 → length group ≡ size →
       WroteC size first (writerLeft o) group [] blank blank
@@ -70,9 +82,12 @@ pub data WroteC (size first : ℕ) : List ℕ → List ℕ → List Image → Ac
       length information ≡ informationLength → length buffer ≡ size →
       WroteC size first (writerLeft o) buffer (run ++ (imageOf (numberSeen o) (entriesSeen o) (groupLeft o) information ∷ []))
       (noted c (phaseSeen state) (closedSeen o) now) (noted c (phaseSeen state) (closedSeen o) now)
-  refused : {state group : List ℕ} {run : List Image} {closed now : Account} {o : Left} (c : Call) (answer : List ℕ) →
+  refused : {state group : List ℕ} {run : List Image} {closed now : Account} {o : Left} (c : CallC) (lent answer : List ℕ) →
       WroteC size first state group run closed now →
-      callC c state group answer ≡ o → (o .refusal ≡ 0 → ⊥) → WroteC size first (writerLeft o) (groupLeft o) run closed now
+      askedC c state lent answer ≡ o → (o .refusal ≡ 0 → ⊥) → WroteC size first (writerLeft o) group run closed now
+  changed : {state group : List ℕ} {run : List Image} {closed now : Account} (information : List ℕ) →
+      WroteC size first state group run closed now → length information ≡ informationLength →
+      WroteC size first state (withInformation group information) run closed now
 
 -- What a read is lent besides the group: a slice for its rows and one for its answer.
 pub record Loan : Type 0 where
