@@ -31,4 +31,4 @@ pub record GivesBackC (size first : ℕ) (state answer : List ℕ) (run : List I
   pub accepts : AcceptsC (readerLeft (ddsReaderStart size first state answer)) run loans rows final
   pub items : itemsRead run rows ≡ a .finished
   pub begun : begunRead run rows ≡ a .begun
-  pub ends : EndsWith (a .begun) (readerOf final)
+  pub ends : EndsWith size first run rows (a .begun) (readerOf final)
