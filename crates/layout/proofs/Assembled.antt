@@ -1,16 +1,19 @@
--- What the pieces of a layout's tokens finish and leave open is its items and the bytes so far: no soundness is needed.
+-- What the pieces of a layout's tokens finish and leave open is its items and the bytes so far, inside a record or owed: no
+-- soundness is needed.
 -- Assumes nothing.
 use Prim.Native.Nat.{ℕ}
 use mathlib.Core.List.{List, [], _∷_, _++_, map, append-assoc, append-nil}
 use mathlib.Core.Bool.{Bool, true, false}
 use mathlib.Core.Path.{_≡_, refl, ap, _∙_}
+use Rattle.group.specs.declared.Phase.{Phase}
+use Rattle.group.specs.declared.Phase.the-variants.{Free, Inside, Owed}
 use Rattle.layout.specs.Items.{Item, Laid, Tail, Piece, Token, items, soFar, tokens, tailTokens, middles, lateBy, grouped, joined, wholeOf}
 use Rattle.layout.specs.Items.Item.{recordItem, separatorItem}
 use Rattle.layout.specs.Items.Laid.{laidEntire, laidSpanned, laidSeparator, endedEarly}
 use Rattle.layout.specs.Items.Tail.{noneOpen, brokenInside, brokenOwed}
 use Rattle.layout.specs.Items.Piece.{aTotal, aLast}
 use Rattle.layout.specs.Items.Token.{piece, groupEnd}
-use Rattle.layout.specs.Reading.{itemsAfter, begunAfter}
+use Rattle.layout.specs.Reading.{itemsAfter, begunAfter, phaseAfter}
 
 -- The pieces among tokens, the ends forgotten.
 unfoldable pub piecesIn : List Token → List Piece
@@ -79,3 +82,29 @@ begun-of-tokens (laidEntire r ∷ ls) t = begun-of-tokens ls t
 begun-of-tokens (laidSpanned p ps q l ∷ ls) t = begun-spanned p ps q l _ (tokens ls t) ∙ begun-of-tokens ls t
 begun-of-tokens (laidSeparator v ∷ ls) t = begun-of-tokens ls t
 begun-of-tokens (endedEarly ∷ ls) t = begun-of-tokens ls t
+
+-- The phase in which a run leaves its reader, by what is open at its end.
+abbrev pub phaseOfTail : Tail → Phase
+phaseOfTail noneOpen = Free
+phaseOfTail (brokenInside p ps) = Inside
+phaseOfTail (brokenOwed p ps q) = Owed
+
+phase-middles : (ps : List (List ℕ)) (ts : List Token) → phaseAfter Inside (piecesIn (middles ps ts)) ≡ phaseAfter Inside (piecesIn ts)
+unfolding phaseAfter piecesIn middles
+phase-middles [] ts = refl
+phase-middles (p ∷ ps) ts = phase-middles ps ts
+
+phase-spanned : (ps : List (List ℕ)) (q : List ℕ) (l : Bool) (n : ℕ) (ts : List Token) →
+    phaseAfter Inside (piecesIn (middles ps (piece (aLast q) ∷ lateBy l (piece (aTotal n) ∷ ts)))) ≡ phaseAfter Free (piecesIn ts)
+unfolding phaseAfter piecesIn
+phase-spanned ps q l n ts = rw (phase-middles ps (piece (aLast q) ∷ lateBy l (piece (aTotal n) ∷ ts)), in-late)
+
+pub phase-of-tokens : (ls : List Laid) (t : Tail) → phaseAfter Free (piecesIn (tokens ls t)) ≡ phaseOfTail t
+unfolding phaseAfter piecesIn tokens tailTokens
+phase-of-tokens [] noneOpen = refl
+phase-of-tokens [] (brokenInside p ps) = phase-middles ps []
+phase-of-tokens [] (brokenOwed p ps q) = phase-middles ps (piece (aLast q) ∷ groupEnd ∷ [])
+phase-of-tokens (laidEntire r ∷ ls) t = phase-of-tokens ls t
+phase-of-tokens (laidSpanned p ps q l ∷ ls) t = phase-spanned ps q l _ (tokens ls t) ∙ phase-of-tokens ls t
+phase-of-tokens (laidSeparator v ∷ ls) t = phase-of-tokens ls t
+phase-of-tokens (endedEarly ∷ ls) t = phase-of-tokens ls t

@@ -1,6 +1,6 @@
 -- A run of groups that picture the pieces of a lawful layout is accepted, whatever row buffers are lent, if they are long enough.
 -- Assumes nothing.
-use Prim.Native.Nat.{ℕ, suc, _+_, _*_, _-_, _≤_}
+use Prim.Native.Nat.{ℕ, suc, _*_, _-_, _≤_}
 use native.Mathlib.Omega.{arith}
 use mathlib.Core.List.{List, [], _∷_, _++_, map}
 use mathlib.Core.Bool.{true}
@@ -29,7 +29,6 @@ use Rattle.layout.specs.Items.SoundTail.{sound-inside, sound-owed}
 use Rattle.layout.specs.Items.Token.{piece, groupEnd}
 use Rattle.layout.specs.Layout.{Image, Pictures, Run, Lays, userData, entriesOf}
 use Rattle.layout.specs.Layout.Run.{run-none, run-more}
-use Rattle.layout.specs.Stated.{EndsWith}
 use Rattle.layout.specs.Accepting.{Accepts, Lent, lentTo}
 use Rattle.layout.specs.Accepting.Accepts.{accepts-none, accepts-more}
 use Rattle.layout.specs.Accepting.Lent.{lent-none, lent-more}
@@ -159,24 +158,16 @@ complete-to {size} {first} l lent =
     accepts-run (fresh size first) (record { least = least; most = most; some = some; opens = o-free }) refl refl (l .images) lent (walk-of l)
 
 -- The sum at the end is the length of what is open, and the phase is free where nothing is.
-tail-sum : (t : Tail) → tailSum t ≡ length (soFar t)
+pub tail-sum : (t : Tail) → tailSum t ≡ length (soFar t)
 unfolding tailSum soFar wholeOf
 tail-sum noneOpen = refl
 tail-sum (brokenInside p ps) = sym (length-append p (joined ps))
 tail-sum (brokenOwed p ps q) = simp length-append (omega arith)
 
-tail-free : {size : ℕ} (f : Phase) (t : Tail) → SoundTail size t → standAt f ≡ tailStand t → (f ≡ phase.Free) ↔ (soFar t ≡ [])
+pub tail-free : {size : ℕ} (f : Phase) (t : Tail) → SoundTail size t → standAt f ≡ tailStand t → (f ≡ phase.Free) ↔ (soFar t ≡ [])
 unfolding tailStand soFar wholeOf
 tail-free phase.Free noneOpen o e = (λ h. refl, λ h. refl)
 tail-free phase.Inside noneOpen o e = let z : _≡_ {A = ℕ} 0 1 = cc in absurd (omega arith)
 tail-free phase.Owed noneOpen o e = let z : _≡_ {A = ℕ} 0 1 = cc in absurd (omega arith)
 tail-free f (brokenInside p ps) (sound-inside a b h) e = (λ x. let y = ap standAt x in let z : _≡_ {A = ℕ} 0 1 = cc in absurd (omega arith), λ x. absurd (omega (arith, ap length x, length-append p (joined ps))))
 tail-free f (brokenOwed p ps q) (sound-owed a b c h m) e = (λ x. let y = ap standAt x in let z : _≡_ {A = ℕ} 0 1 = cc in absurd (omega arith), λ x. absurd (let all = simp length-append at (ap length x) in omega (arith, all)))
-
-pub ends-with : {size first : ℕ} {s : Reader} {i : List Item} {b : List ℕ} {run : List Image} {lent : List (List ℕ)} (l : Lays size first i b run) →
-    (a : AcceptedTo s run lent (tailStand (l .tail)) (tailSum (l .tail))) → EndsWith b (a .final)
-ends-with l a =
-    record {
-      sum = a .sum ∙ tail-sum (l .tail) ∙ ap length (l .breaks);
-      free = rw (l .breaks) at (tail-free (a .final .phase) (l .tail) (l .soundTail) (a .stand));
-    }

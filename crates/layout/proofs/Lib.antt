@@ -8,6 +8,7 @@ pub mod OnlyOne
 pub mod Unscanned
 pub mod Sound
 pub mod Order
+pub mod Ending
 pub mod Buffer
 pub mod Held
 pub mod Accounts

@@ -67,13 +67,18 @@ pieces-read {size} h e (run-more {ps} {pss} {g} a b f r) w (accepts-more {s} {t}
     let one : piecesFrom (g .bytes) (groupRows s (g .bytes) (g .entries)) ≡ ps = rw e (pieces-back f h (q .small)) in
     rw (rows-given s t g old x, one, pieces-read h (size-kept s t (g .bytes) (g .number) (g .entries) (length old) x ∙ e) r (q .goes) more)
 
--- So the reading is the layout's items and bytes so far.
+-- .. and so those of any lawful layout of the run,
+pub pieces-laid : {size first : ℕ} {i : List Item} {b : List ℕ} {run : List Image} {rows : List (List ℕ)} {final : Reader} →
+    (l : Lays size first i b run) → Accepts (fresh size first) run rows final → piecesOf run rows ≡ piecesIn (tokens (l .laid) (l .tail))
+pieces-laid {size} l a =
+    let (least, most) = within 64 size 126632 (l .sized) in
+    pieces-read (omega arith) refl (l .images) (walk-of l) a ∙ sym (in-grouped (l .groups)) ∙ ap piecesIn (sym (l .groupsOf))
+
+-- .. which give its items and bytes so far.
 pub reading-is : {size first : ℕ} {i : List Item} {b : List ℕ} {run : List Image} {rows : List (List ℕ)} {final : Reader} →
     Lays size first i b run → Accepts (fresh size first) run rows final → (itemsRead run rows ≡ i) × (begunRead run rows ≡ b)
 reading-is {size} {run} {rows} l a =
-    let (least, most) = within 64 size 126632 (l .sized) in
-    let r : piecesOf run rows ≡ piecesIn (tokens (l .laid) (l .tail)) =
-    pieces-read (omega arith) refl (l .images) (walk-of l) a ∙ sym (in-grouped (l .groups)) ∙ ap piecesIn (sym (l .groupsOf)) in
+    let r = pieces-laid l a in
     (rw r (items-of-tokens (l .laid) (l .tail) ∙ l .finishes), rw r (begun-of-tokens (l .laid) (l .tail) ∙ l .breaks))
 
 -- Row buffers that are just long enough.

@@ -34,8 +34,9 @@ use Rattle.layout.specs.WritingStated.{GivesBack}
 use Rattle.layout.proofs.Assembled.{flat}
 use Rattle.layout.proofs.Grammar.{Walk}
 use Rattle.layout.proofs.Grammar.Walk.{stop}
-use Rattle.layout.proofs.Complete.{begins-at, complete-to, ends-with}
+use Rattle.layout.proofs.Complete.{begins-at, complete-to}
 use Rattle.layout.proofs.OnlyOne.{reading-is}
+use Rattle.layout.proofs.Ending.{ends-with}
 use Rattle.layout.proofs.Sound.{lays-run}
 use Rattle.layout.proofs.Buffer.{buffered-fresh, buffered-changed}
 use Rattle.layout.proofs.Accounts.{Hand, Kept, Said, after-call, as-given, as-came}
@@ -177,7 +178,7 @@ gives-back {size} {first} x lent =
     record {
       reader = fresh size first;
       starts = begins-at size first size-kept number-kept;
-      accepted = record { rows = a .rows; final = a .final; accepts = a .accepts; buffers = a .buffers; ends = ends-with l a };
+      accepted = record { rows = a .rows; final = a .final; accepts = a .accepts; buffers = a .buffers; ends = ends-with l (a .accepts) };
       items = items;
       begun = begun;
     }

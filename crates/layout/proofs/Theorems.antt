@@ -22,10 +22,11 @@ use Rattle.layout.specs.Writing.{Account, Wrote, WasEnded}
 use Rattle.layout.specs.WritingStated.{GivesBack, AllClosed, TotalsKept}
 use Rattle.layout.specs.BenchTable.{Case, shown, benchTable}
 use Rattle.layout.proofs.Grammar.{tailStand, tailSum}
-use Rattle.layout.proofs.Complete.{AcceptedTo, complete-to, ends-with}
+use Rattle.layout.proofs.Complete.{AcceptedTo, complete-to}
 use Rattle.layout.proofs.OnlyOne.{reading-is, one-reading, enough}
 use Rattle.layout.proofs.Sound.{lawful-from}
-use Rattle.layout.proofs.Order.{first-of, size-after, next-after, number-of, same-state, split, each-before, out-of-order}
+use Rattle.layout.proofs.Order.{first-of, size-after, next-after, number-of, split, each-before, out-of-order}
+use Rattle.layout.proofs.Ending.{ends-with}
 use Rattle.layout.proofs.Returned as written
 use Rattle.layout.proofs.Ended as endings
 use Rattle.layout.proofs.TotalKept as totals
@@ -49,7 +50,13 @@ module _ (size first : ℕ) (s : Reader) (begins : readerStartCall size first �
   pub complete : (i : List Item) (b : List ℕ) (run : List Image) (lent : List (List ℕ)) → Lays size first i b run → Lent run lent → AcceptedWith s run lent b
   complete i b run lent l e =
       let a = accepted-to l e in
-      record { rows = a .rows; final = a .final; accepts = a .accepts; buffers = a .buffers; ends = ends-with l a }
+      record {
+        rows = a .rows;
+        final = a .final;
+        accepts = a .accepts;
+        buffers = a .buffers;
+        ends = subst (λ (x : Reader). EndsWith (x .size) (x .next) run (a .rows) b (a .final)) is-fresh (ends-with l (from-fresh (a .accepts)));
+      }
 
   -- "A layout is defined from its items and these freedoms to the groups, and not by the reader's or the writer's steps." What
   -- is accepted is a lawful layout of what its rows and its bytes give. (That each image is made of bytes is what a byte slice
@@ -74,12 +81,12 @@ module _ (size first : ℕ) (s : Reader) (begins : readerStartCall size first �
       (itemsRead run rows ≡ i) × (begunRead run rows ≡ b)
   read-back i b run rows final l a = reading-is l (from-fresh a)
 
-  -- "Its state is L, the next number, free / inside / owed, and the sum of parts so far": at the end of a run the sum is the
-  -- number of bytes so far, and the state is free where there are none.
-  pub state-at-end : (i : List Item) (b : List ℕ) (run : List Image) (rows : List (List ℕ)) (final : Reader) → Lays size first i b run → Accepts s run rows final → EndsWith b final
-  state-at-end i b run rows final l a =
-      let c = accepted-to l (enough run) in
-      subst (EndsWith b) (same-state (c .accepts) a) (ends-with l c)
+  -- "Its state is L, the next number, free / inside / owed, and the sum of parts so far": at the end of a run the number is as
+  -- many higher as there are groups, the pieces that the rows give tell free, inside and owed, and the sum is the number of bytes
+  -- so far.
+  pub state-at-end : (i : List Item) (b : List ℕ) (run : List Image) (rows : List (List ℕ)) (final : Reader) → Lays size first i b run → Accepts s run rows final →
+      EndsWith size first run rows b final
+  state-at-end i b run rows final l a = ends-with l (from-fresh a)
 
   -- "A record is finished at its entire entry or at its total, and broken off if the run ends before." At every group's end:
   -- accepted so far, and what the rows give so far is a lawful layout of it and the only one.

@@ -1,5 +1,5 @@
--- The reading that a run's rows and bytes give: its pieces, the items that they finish, and the bytes so far of the record
--- that they leave open.
+-- The reading that a run's rows and bytes give: its pieces, the items that they finish, the bytes so far of the record that
+-- they leave open, and whether it is inside or its total owed.
 -- Assumes nothing.
 use Prim.Native.Nat.{ℕ, _*_}
 use mathlib.Core.List.{List, [], _∷_, _++_}
@@ -7,6 +7,8 @@ use mathlib.Core.Bool.{cond}
 use lib.ListN.{take, drop}
 use lib.Dec.{eqb}
 use Rattle.numbers.specs.Numbers.{Bytes}
+use Rattle.group.specs.declared.Phase.{Phase}
+use Rattle.group.specs.declared.Phase.the-variants.{Free, Inside, Owed}
 use Rattle.layout.specs.Items.{Item, Piece}
 use Rattle.layout.specs.Items.Item.{recordItem, separatorItem}
 use Rattle.layout.specs.Items.Piece.{aTotal, aSeparator, aMiddle, aStart, aLast, anEntire}
@@ -55,12 +57,26 @@ begunAfter begun (aStart bs ∷ ps) = begunAfter bs ps
 begunAfter begun (aLast bs ∷ ps) = begunAfter (begun ++ bs) ps
 begunAfter begun (anEntire bs ∷ ps) = begunAfter [] ps
 
+-- Where pieces leave a record. "After start or middle: skip only. The next group begins inside the record." "After last: total,
+-- or skip. With skip the total is owed."
+unfoldable pub phaseAfter : Phase → List Piece → Phase
+phaseAfter at [] = at
+phaseAfter at (aTotal n ∷ ps) = phaseAfter Free ps
+phaseAfter at (aSeparator v ∷ ps) = phaseAfter Free ps
+phaseAfter at (aMiddle bs ∷ ps) = phaseAfter Inside ps
+phaseAfter at (aStart bs ∷ ps) = phaseAfter Inside ps
+phaseAfter at (aLast bs ∷ ps) = phaseAfter Owed ps
+phaseAfter at (anEntire bs ∷ ps) = phaseAfter Free ps
+
 -- What the rows and the bytes of a run give.
 abbrev pub itemsRead : List Image → List (List ℕ) → List Item
 itemsRead run rows = itemsAfter [] (piecesOf run rows)
 
 abbrev pub begunRead : List Image → List (List ℕ) → List ℕ
 begunRead run rows = begunAfter [] (piecesOf run rows)
+
+abbrev pub phaseRead : List Image → List (List ℕ) → Phase
+phaseRead run rows = phaseAfter Free (piecesOf run rows)
 
 -- Each image is made of bytes, as what lies in a byte slice is.
 abbrev pub OfBytes : Image → Type 0

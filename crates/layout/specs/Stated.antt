@@ -1,7 +1,7 @@
 -- What the theorems of a reader state where it is more than one fact: the state at an end, an acceptance with given row
 -- buffers, a run at a group's end, and a run out of order.
 -- Assumes nothing.
-use Prim.Native.Nat.{ℕ}
+use Prim.Native.Nat.{ℕ, _+_}
 use mathlib.Core.List.{List, [], _∷_, _++_}
 use mathlib.Core.Path.{_≡_}
 use mathlib.Core.Logic.{_↔_}
@@ -13,12 +13,16 @@ use Rattle.reader.specs.Answer.{readCall}
 use Rattle.layout.specs.Items.{Item}
 use Rattle.layout.specs.Layout.{Image, Lays}
 use Rattle.layout.specs.Accepting.{Accepts, lentTo}
-use Rattle.layout.specs.Reading.{itemsRead, begunRead}
+use Rattle.layout.specs.Reading.{itemsRead, begunRead, phaseRead}
 
--- A reader's state after a run that leaves these bytes of a record: their number is its sum, and it is free where there are none.
-pub record EndsWith (begun : List ℕ) (final : Reader) : Type 0 where
-  pub sum : final .sum ≡ length begun
+-- "Its state is L, the next number, free / inside / owed, and the sum of parts so far": after a run of groups of this size from
+-- this first number, where its rows leave these bytes of a record. The pieces that the rows give tell inside from owed.
+pub record EndsWith (size first : ℕ) (run : List Image) (rows : List (List ℕ)) (begun : List ℕ) (final : Reader) : Type 0 where
+  pub sized : final .size ≡ size
+  pub next : final .next ≡ first + length run
+  pub stands : final .phase ≡ phaseRead run rows
   pub free : (final .phase ≡ phase.Free) ↔ (begun ≡ [])
+  pub sum : final .sum ≡ length begun
 
 -- A run that is accepted by reads which are lent just these row buffers: the rows that they are left with, and the state.
 pub record AcceptedWith (s : Reader) (run : List Image) (lent : List (List ℕ)) (begun : List ℕ) : Type 0 where
@@ -26,7 +30,7 @@ pub record AcceptedWith (s : Reader) (run : List Image) (lent : List (List ℕ))
   pub final : Reader
   pub accepts : Accepts s run rows final
   pub buffers : lentTo accepts ≡ lent
-  pub ends : EndsWith begun final
+  pub ends : EndsWith (s .size) (s .next) run rows begun final
 
 -- An accepted run at the end of one of its groups: the beginning is accepted, and the rest from there on; what the rows of the
 -- beginning give is a lawful layout of it, and the only one.
@@ -39,7 +43,7 @@ pub record AtEnd (size first : ℕ) (s : Reader) (beginning rest : List Image) (
   pub goes-on : Accepts state rest behind final
   pub lays : Lays size first (itemsRead beginning before) (begunRead beginning before) beginning
   pub only : (i : List Item) (b : List ℕ) → Lays size first i b beginning → (i ≡ itemsRead beginning before) × (b ≡ begunRead beginning before)
-  pub ends : EndsWith (begunRead beginning before) state
+  pub ends : EndsWith size first beginning before (begunRead beginning before) state
 
 -- A run that is refused with 5 at its group h: the groups before it are accepted; after them, whatever rows were and are lent,
 -- the read of h answers 5, place 0 and the state as given; and the run as a whole is never accepted.

@@ -53,6 +53,7 @@ module _ (size first : ℕ) (state group : List ℕ) (run : List Image) (closed 
       let s = starts-through size first (y .reader) old answer (y .starts) e f in
       let h = sound-fresh size first (y .reader) (y .starts) in
       let reads = accepted-through (a .accepts) h l (a .buffers) in
+      let ends = subst (λ (r : Reader). EndsWith (r .size) (r .next) run (a .rows) (closed .begun) (a .final)) (begun-at size first (y .reader) (y .starts) .1) (a .ends) in
       record {
         starts = ap (λ (o : Left). o .refusal) s;
         rows = a .rows;
@@ -60,7 +61,7 @@ module _ (size first : ℕ) (state group : List ℕ) (run : List Image) (closed 
         accepts = subst (λ (o : Left). AcceptsC (readerLeft o) run loans (a .rows) (slice (a .final))) (sym s) reads;
         items = y .items;
         begun = y .begun;
-        ends = subst (λ (r : Reader). EndsWith (closed .begun) r) (sym (held-slice (a .final) (sound-end (a .accepts) h))) (a .ends);
+        ends = subst (λ (r : Reader). EndsWith size first run (a .rows) (closed .begun) r) (sym (held-slice (a .final) (sound-end (a .accepts) h))) ends;
       }
 
   -- Whatever slices C lends, and whatever stands in them: a reading of those groups in which every call returned 0 gives back the

@@ -39,7 +39,7 @@ pub record GivesBackC (size first : ℕ) (state answer : List ℕ) (run : List I
   pub accepts : AcceptsC (readerLeft (ddsReaderStart size first state answer)) run loans rows final
   pub items : itemsRead run rows ≡ a .finished
   pub begun : begunRead run rows ≡ a .begun
-  pub ends : EndsWith (a .begun) (readerOf final)
+  pub ends : EndsWith size first run rows (a .begun) (readerOf final)
 
 -- A run that C reads to its end, whoever wrote it: the start returned 0, and from the state slice that it left every read did, lent
 -- just these slices.
@@ -77,7 +77,7 @@ pub record AtEndC (size first : ℕ) (state answer : List ℕ) (beginning rest :
   pub parts : SplitC (readerLeft (ddsReaderStart size first state answer)) beginning rest loans rows final
   pub lays : Lays size first (itemsRead beginning (parts .before)) (begunRead beginning (parts .before)) beginning
   pub only : (i : List Item) (b : List ℕ) → Lays size first i b beginning → (i ≡ itemsRead beginning (parts .before)) × (b ≡ begunRead beginning (parts .before))
-  pub ends : EndsWith (begunRead beginning (parts .before)) (readerOf (parts .middle))
+  pub ends : EndsWith size first beginning (parts .before) (begunRead beginning (parts .before)) (readerOf (parts .middle))
 
 -- A run that is refused with 5 at its group h: the groups before it are accepted; after them, whatever rows are lent, the read of h
 -- returns 5 and tells 5 with place 0, and leaves the state and the rows; and the run as a whole is never accepted.
