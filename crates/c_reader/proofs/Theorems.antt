@@ -1,9 +1,9 @@
 -- The theorems of this crate, each under document 01's sentence. The crates above cite these.
 -- Assumes nothing.
 use mathlib.Core.Path.{_≡_, refl, ap, _∙_}
-use mathlib.Core.Logic.{_↔_}
+use mathlib.Core.Logic.{_↔_, inl}
 use mathlib.Core.Bool.{Bool, true, false, cond}
-use mathlib.Core.List.{List}
+use mathlib.Core.List.{List, [], _∷_}
 use Prim.Native.Nat.{ℕ, _/_}
 use borrow.Author.Tests.{eqb-false}
 use lib.Dec.{eqb}
@@ -20,11 +20,12 @@ use Rattle.reader.specs.declared.ReadAnswer.{ReadAnswer}
 use Rattle.reader.specs.declared.ReadAnswer.the-variants as read
 use Rattle.reader.specs.Answer.{fresh, readerStartCall, startTold, readCall, told, stateOf, groupRows}
 use Rattle.reader.proofs.Refused.{read-refuses, read-not-zero}
-use Rattle.slices.specs.Call.{ofMeaning}
+use Rattle.reader.specs.Refused.{RefusedRead}
+use Rattle.slices.specs.Call.{Left, lengthsKept, ofMeaning, called}
 use Rattle.slices.proofs.Calls.{leaves, returns-zero, meant-zero}
-use Rattle.states.specs.States.{readerOf, readerBytes, readerMeant}
+use Rattle.states.specs.States.{readerLength, readerOf, readerBytes, readerMeant}
 use Rattle.c_reader.specs.Calls.{ddsReaderStart, ddsRead, readerLeft, rowsRead}
-use Rattle.c_reader.specs.Accepted.{StartAccepted, ReadAccepted}
+use Rattle.c_reader.specs.Accepted.{StartAccepted, ReadAccepted, ReadRefused}
 
 -- A start that tells 0 started.
 start-told : (size first : ℕ) → refusalTold (startTold (readerStartCall size first)) ≡ 0 → readerStartCall size first ≡ start.Started (fresh size first)
@@ -81,3 +82,19 @@ module _ (state group : List ℕ) (number n : ℕ) (rows answer : List ℕ) wher
         l .slices 0 ∙ ap (λ (x : Told). ifAccepted x (readerBytes (stateOf own)) state) m ∙ ap (λ (x : ReadAnswer). readerBytes (stateOf x)) (a .accepts),
         l .slices 1 ∙ ap (λ (x : Told). ifAccepted x (put rows 0 (inBytes (groupRows (readerOf state) group n))) rows) m,
       )
+
+  -- "A refusal answers the number, the place (k for 8 to 13, else 0) and the state as given. C's answer slice apart, nothing lent
+  -- changes": of every read that returns another number than 0.
+  pub read-refused : (ddsRead state group number n rows answer .refusal ≡ 0 → ⊥) → ReadRefused state n rows answer (ddsRead state group number n rows answer)
+  unfolding ddsRead called
+  read-refused z = by (lengthsKept (length state) readerLength (length answer)) refl (readerMeant state) own refl z
+    where
+      all : Bool → Bool → ReadAnswer → Left
+      all kept meant a =
+          called kept (ofMeaning meant (told a)) (readerBytes (stateOf a) ∷ put rows 0 (inBytes (groupRows (readerOf state) group n)) ∷ []) (state ∷ rows ∷ []) answer
+
+      by : (kept : Bool) → lengthsKept (length state) readerLength (length answer) ≡ kept → (meant : Bool) (a : ReadAnswer) → own ≡ a → (all kept meant a .refusal ≡ 0 → ⊥) → ReadRefused state n rows answer (all kept meant a)
+      by false e meant a f z = ReadRefused.by-a-length e
+      by true e false a f z = ReadRefused.told {s = readerOf state} (RefusedRead.before-the-scan (inl refl))
+      by true e true (read.Accepted t) f z = absurd (z refl)
+      by true e true (read.Refused t refusal place) f z = ReadRefused.told (read-refuses _ t group number n _ refusal place f)

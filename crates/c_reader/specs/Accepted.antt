@@ -1,15 +1,18 @@
--- Document 01, "What the box holds": "Each call returns the number, 0 if accepted." When a reader's start and a read are accepted.
+-- Document 01, "What the box holds": "Each call returns the number, 0 if accepted." When a reader's start and a read are accepted, and
+-- what a read leaves that is refused.
 -- Assumes nothing.
 use Prim.Native.Nat.{ℕ, _/_}
 use mathlib.Core.Path.{_≡_}
-use mathlib.Core.Bool.{true}
-use mathlib.Core.List.{List}
+use mathlib.Core.Bool.{true, false}
+use mathlib.Core.List.{List, [], _∷_}
 use lib.ListN.{length}
+use Rattle.numbers.specs.Numbers.{inBytes}
 use Rattle.reader.specs.declared.Reader.{Reader}
 use Rattle.reader.specs.declared.ReaderStart.the-variants.{Started}
 use Rattle.reader.specs.declared.ReadAnswer.the-variants.{Accepted}
 use Rattle.reader.specs.Answer.{fresh, readerStartCall, readCall}
-use Rattle.slices.specs.Call.{lengthsKept}
+use Rattle.reader.specs.Refused.{RefusedRead}
+use Rattle.slices.specs.Call.{Left, left, lengthsKept}
 use Rattle.states.specs.States.{readerLength, readerOf, readerMeant}
 
 -- The slices are of their lengths, and the reader's own start starts.
@@ -24,3 +27,10 @@ pub record ReadAccepted (state group : List ℕ) (number n : ℕ) (rows answer :
   pub meant : readerMeant state ≡ true
   pub left : Reader
   pub accepts : readCall (readerOf state) group number n (length rows / 4) ≡ Accepted left
+
+-- "A state or answer slice of another length is refusal 1, with nothing written." "Otherwise a refusal writes just the answer slice":
+-- its number and its place, and no more. (A free / inside / owed number that has no meaning is 1, with place 0, as well.)
+pub data ReadRefused (state : List ℕ) (n : ℕ) (rows answer : List ℕ) : Left → Type 0 where
+  by-a-length : lengthsKept (length state) readerLength (length answer) ≡ false → ReadRefused state n rows answer (left 1 (state ∷ rows ∷ []) answer)
+  told : {s : Reader} {refusal place : ℕ} → RefusedRead (readerOf state) n s refusal place →
+      ReadRefused state n rows answer (left refusal (state ∷ rows ∷ []) (inBytes (refusal ∷ place ∷ 0 ∷ 0 ∷ 0 ∷ 0 ∷ [])))

@@ -137,3 +137,10 @@ returns-zero false told new old answer = (λ e. absurd (omega arith), λ p. absu
 pub meant-zero : (meant : Bool) (told : Told) → (refusalTold (ofMeaning meant told) ≡ 0) ↔ ((meant ≡ true) × (refusalTold told ≡ 0))
 meant-zero true told = (λ e. (refl, e), λ p. p .1)
 meant-zero false told = (λ e. absurd (omega arith), λ p. absurd (true≢false (sym (p .0))))
+
+-- "C's answer slice apart, nothing lent changes": a call that returns another number than 0 leaves every slice that it may write.
+pub refused-leaves : {o : Left} (kept : Bool) (told : Told) (new old : List (List ℕ)) (answer : List ℕ) → o ≡ called kept told new old answer → (o .refusal ≡ 0 → ⊥) → o .lent ≡ old
+unfolding called
+refused-leaves true (Accepted outcome number entries taken) new old answer e n = absurd (n (ap (λ (p : Left). p .refusal) e))
+refused-leaves true (RefusedAt refusal place) new old answer e n = ap (λ (p : Left). p .lent) e
+refused-leaves false told new old answer e n = ap (λ (p : Left). p .lent) e

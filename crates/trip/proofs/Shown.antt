@@ -1,5 +1,6 @@
 -- Writings from C by computation, so that the theorems do not speak of nothing: a record that spans two groups, with its total
--- laid in a third; refused calls and slices of other lengths in between; and loans with which the run is read.
+-- laid in a third; refused calls and slices of other lengths in between; and loans with which the run is read. And a run that is not
+-- our writer's, read from C.
 -- Assumes nothing.
 use Prim.Native.Nat.{ℕ}
 use native.Mathlib.Omega.{arith}
@@ -12,17 +13,19 @@ use Rattle.numbers.specs.Numbers.{inBytes}
 use Rattle.writer.specs.Calls.{stateOf}
 use Rattle.writer.specs.Calls.Call.{aRecord, aSeparator, anEnd}
 use Rattle.layout.specs.Items.Item.{recordItem, separatorItem}
+use Rattle.layout.specs.Items.Piece.{aTotal, aMiddle, aStart, aLast}
 use Rattle.layout.specs.Layout.{Image}
 use Rattle.layout.specs.Writing.{Account, blank, totalLaid, inHand, afterRecord, afterSeparator, noted, imageOf}
 use Rattle.layout.specs.BenchTable.{from}
 use Rattle.layout.proofs.Bench.{opens}
+use Rattle.layout.proofs.Shown.{groupOf, runOf, equalMiddles, middles-shown}
 use Rattle.slices.specs.Call.{lengthsKept, called}
 use Rattle.states.specs.States.{writerOf, writerMeant}
 use Rattle.c_writer.specs.Calls.{ddsWriterStart, written, ddsRecord, ddsSeparator, ddsEnd}
 use Rattle.trip.specs.ThroughC.{callC, recordC, endC, askedC, Loan, LentC, WroteC}
 use Rattle.trip.specs.ThroughC.WroteC.{begins, goes-on, closes, refused}
-use Rattle.trip.specs.Stated.{GivesBackC}
-use Rattle.trip.proofs.Theorems.{c-returned}
+use Rattle.trip.specs.Stated.{GivesBackC, AcceptedC, OutOfOrderC}
+use Rattle.trip.proofs.Theorems.{c-returned, c-complete, c-exchanged}
 
 -- A writing from C of so many groups, and loans for reading them.
 pub record Shows (groups : ℕ) (closed now : Account) : Type 0 where
@@ -74,3 +77,22 @@ spanned =
 pub given-back : GivesBackC 64 1 (replicate 16 0xEE) (replicate 24 0xEE) (spanned .run) (spanned .loans)
     (record { finished = recordItem (from 1 45) ∷ separatorItem 1 ∷ []; begun = []; asked = [] })
 given-back = c-returned 64 1 (spanned .state) (spanned .group) (spanned .run) _ _ (spanned .wrote) (replicate 16 0xEE) (replicate 24 0xEE) (spanned .loans) refl refl (spanned .lent)
+
+-- A run that our writer never lays: a record broken where there is room left, into two middles of one length, whatever their bytes;
+-- gap bytes of 7. It is read from C to its end ..
+pub foreign : (x y z w : ℕ) → AcceptedC 64 1 (replicate 16 0xEE) (replicate 24 0xEE) (runOf 1 (equalMiddles x y z w)) (loan 24 ∷ loan 24 ∷ loan 25 ∷ loan 36 ∷ [])
+unfolding groupOf runOf
+foreign x y z w =
+    c-complete 64 1 (replicate 16 0xEE) (replicate 24 0xEE) _ _ _ (loan 24 ∷ loan 24 ∷ loan 25 ∷ loan 36 ∷ []) (middles-shown x y z w .lays) refl refl
+    (LentC.lent-more (leb-true _ _ refl) refl
+    (LentC.lent-more (leb-true _ _ refl) refl
+    (LentC.lent-more (leb-true _ _ refl) refl
+    (LentC.lent-more (leb-true _ _ refl) refl LentC.lent-none))))
+
+-- .. and with the two exchanged it is refused with 5, although its total matches.
+pub foreign-exchanged : (x y z w : ℕ) → OutOfOrderC 64 1 (replicate 16 0xEE) (replicate 24 0xEE) (groupOf 1 9 (aStart (1 ∷ []) ∷ []) ∷ []) (groupOf 3 9 (aMiddle (z ∷ w ∷ []) ∷ []))
+    (groupOf 2 9 (aMiddle (x ∷ y ∷ []) ∷ []) ∷ groupOf 4 9 (aLast (4 ∷ []) ∷ aTotal 6 ∷ []) ∷ [])
+unfolding runOf
+foreign-exchanged x y z w =
+    c-exchanged 64 1 (replicate 16 0xEE) (replicate 24 0xEE) (groupOf 1 9 (aStart (1 ∷ []) ∷ []) ∷ []) [] (groupOf 4 9 (aLast (4 ∷ []) ∷ aTotal 6 ∷ []) ∷ [])
+    (groupOf 2 9 (aMiddle (x ∷ y ∷ []) ∷ [])) (groupOf 3 9 (aMiddle (z ∷ w ∷ []) ∷ [])) _ (foreign x y z w)

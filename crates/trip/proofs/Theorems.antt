@@ -88,29 +88,35 @@ module _ (size first : ℕ) (state answer : List ℕ) where
   pub c-accepts : (run : List Image) (loans : List Loan) (a : AcceptedC size first state answer run loans) → AcceptsOwn size first run loans (a .rows) (a .final)
   c-accepts = accepts-own size first state answer
 
-  c-lawful : (run : List Image) (loans : List Loan) → Each OfBytes run → (a : AcceptedC size first state answer run loans) →
+  -- What is accepted is a lawful layout of what the numbers in the row slices and the bytes give. (That each image is made of bytes
+  -- is what a byte slice is.)
+  pub c-lawful : (run : List Image) (loans : List Loan) → Each OfBytes run → (a : AcceptedC size first state answer run loans) →
       Lays size first (itemsRead run (a .rows)) (begunRead run (a .rows)) run
   c-lawful run loans b a =
       let o = c-accepts run loans a in
       lawful size first (o .reader) (o .starts) run (a .rows) (o .last) b (o .accepts)
 
-  -- A run is accepted to its end, with any slices that are long enough, exactly when some list of records and separators lays out
-  -- to it. (That each image is made of bytes is what a byte slice is.)
+  -- A lawful layout is accepted, with any slices that are long enough.
+  pub c-complete : (i : List Item) (b : List ℕ) (run : List Image) (loans : List Loan) → Lays size first i b run →
+      length state ≡ readerLength → length answer ≡ answerLength → LentC run loans → AcceptedC size first state answer run loans
+  c-complete i b run loans l e f lent =
+      let s = lays-start size first i b run l in
+      let c = complete size first (fresh size first) s i b run (numbersLent loans) l (enough-lent lent) in
+      let o = starts-through size first (fresh size first) state answer s e f in
+      let reads = accepted-through (c .accepts) (sound-fresh size first (fresh size first) s) lent (c .buffers) in
+      record {
+        starts = ap (λ (y : Left). y .refusal) o;
+        rows = c .rows;
+        final = slice (c .final);
+        accepts = subst (λ (y : Left). AcceptsC (readerLeft y) run loans (c .rows) (slice (c .final))) (sym o) reads;
+      }
+
+  -- So a run is accepted to its end exactly when some list of records and separators lays out to it. (Of byte slices, as above.)
   pub c-exactly : (run : List Image) (loans : List Loan) → Each OfBytes run → length state ≡ readerLength → length answer ≡ answerLength → LentC run loans →
       AcceptedC size first state answer run loans ↔ ((i : List Item) × ((b : List ℕ) × Lays size first i b run))
   c-exactly run loans b e f l = (
     λ a. (itemsRead run (a .rows), (begunRead run (a .rows), c-lawful run loans b a)),
-    λ x.
-        let s = lays-start size first (x .0) (x .1 .0) run (x .1 .1) in
-        let c = complete size first (fresh size first) s (x .0) (x .1 .0) run (numbersLent loans) (x .1 .1) (enough-lent l) in
-        let o = starts-through size first (fresh size first) state answer s e f in
-        let reads = accepted-through (c .accepts) (sound-fresh size first (fresh size first) s) l (c .buffers) in
-        record {
-          starts = ap (λ (y : Left). y .refusal) o;
-          rows = c .rows;
-          final = slice (c .final);
-          accepts = subst (λ (y : Left). AcceptsC (readerLeft y) run loans (c .rows) (slice (c .final))) (sym o) reads;
-        },
+    λ x. c-complete (x .0) (x .1 .0) run loans (x .1 .1) e f l,
   )
 
   -- .. and what the numbers in the row slices give is the only such list.
