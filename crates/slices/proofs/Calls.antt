@@ -84,13 +84,6 @@ unfolding called
 let-through true told new old answer e zero = refl
 let-through {o} false told new old answer e zero = let z : _≡_ {A = ℕ} 1 0 = sym (ap (λ (p : Left). p .refusal) e) ∙ zero in absurd (omega arith)
 
--- A call that returns another number leaves every slice but the answer.
-pub refused-leaves : {o : Left} (kept : Bool) (told : Told) (new old : List (List ℕ)) (answer : List ℕ) → o ≡ called kept told new old answer → (o .refusal ≡ 0 → ⊥) → o .lent ≡ old
-unfolding called
-refused-leaves true (Accepted outcome number entries taken) new old answer e n = absurd (n (ap (λ (p : Left). p .refusal) e))
-refused-leaves true (RefusedAt refusal place) new old answer e n = ap (λ (p : Left). p .lent) e
-refused-leaves false told new old answer e n = ap (λ (p : Left). p .lent) e
-
 -- What a call leaves that they let through.
 pub record Leaves (told : Told) (new old : List (List ℕ)) (o : Left) : Type 0 where
   pub returns : o .refusal ≡ refusalTold told

@@ -138,7 +138,7 @@ module _ (size first : ℕ) (state answer : List ℕ) where
         parts = p;
         lays = l;
         only = λ i d m. c-only-one beginning (p .lent) e c i d m;
-        ends = subst (EndsWith (begunRead beginning (p .before))) holds (state-at-end size first (o .reader) (o .starts) _ _ beginning (p .before) (o .last) l (o .accepts));
+        ends = subst (λ (r : Reader). EndsWith size first beginning (p .before) (begunRead beginning (p .before)) r) holds (state-at-end size first (o .reader) (o .starts) _ _ beginning (p .before) (o .last) l (o .accepts));
       }
 
   -- "Taking a matching total as proof of order: only the number tells equal middles apart." Any two groups g and h of a run that C
