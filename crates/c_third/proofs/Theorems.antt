@@ -1,7 +1,7 @@
 -- Change request 2026-08 through C's slices: what is made, restored, mended and checked, by what the five calls return and leave.
 -- Assumes nothing.
 use mathlib.Core.Path.{_≡_, refl, sym, ap, _∙_, subst}
-use mathlib.Core.Logic.{_⊎_, inl, inr}
+use mathlib.Core.Logic.{inl, inr}
 use mathlib.Core.List.{List, [], _∷_}
 use Prim.Native.Nat.{ℕ, _^_, _<_, _≤_}
 use native.Mathlib.Omega.{arith}
@@ -13,7 +13,7 @@ use Rattle.answer.specs.Answer.{numbersTold, refusalTold}
 use Rattle.column.specs.Column.{lastRow, Column, column, Lawful, restoredOne, restoredTwo, mended}
 use Rattle.column.specs.Alike.{ColumnBytes, Same, SameBut, SameButTwo, AtMostOne}
 use Rattle.third.specs.declared.ThirdAnswer.{ThirdAnswer}
-use Rattle.third.specs.declared.ThirdAnswer.the-variants.{Accepted, Refused}
+use Rattle.third.specs.declared.ThirdAnswer.the-variants.{Accepted}
 use Rattle.third.specs.Answer.{firstCheckRow, makeCall, oneCall, twoCall, mendCall, checkCall, told, Does, Mends}
 use Rattle.third.specs.Written.{Lent, Written, MendTold, CheckTold, FirstHopeless}
 use Rattle.third.proofs.Theorems.{third-made, third-restored-one, third-restored-two, third-mended, third-mended-column, third-told, third-checked}
