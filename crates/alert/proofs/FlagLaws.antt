@@ -241,6 +241,26 @@ counted-so alert = by (lowestRaised alert) (lowest-so (raised alert) 1 64)
           none-below = h;
         }
 
+-- Both are at most 64.
+count-most : (up : ℕ → Bool) (flag n : ℕ) → countFrom up flag n ≤ n
+unfolding countFrom
+count-most up flag zero = omega arith
+count-most up flag (suc n) = by (up flag) (count-most up (suc flag) n)
+  where
+    by : (b : Bool) → countFrom up (suc flag) n ≤ n → cond b 1 0 + countFrom up (suc flag) n ≤ suc n
+    by true h = omega arith
+    by false h = omega arith
+
+pub raised-most : (alert : List ℕ) → raisedCount alert ≤ 64
+raised-most alert = count-most (raised alert) 1 64
+
+pub lowest-most : (alert : List ℕ) → lowestRaised alert ≤ 64
+lowest-most alert = by (lowestRaised alert) (lowest-so (raised alert) 1 64)
+  where
+    by : (lowest : ℕ) → Lowest (raised alert) 1 64 lowest → lowest ≤ 64
+    by lowest (none z h) = omega arith
+    by lowest (some low high u h) = omega arith
+
 -- The two numbers of eight bytes that were made of them.
 module _ (high low : ℕ) (h : high < 256 ^ 4) (l : low < 256 ^ 4) where
   pub high-made : numberAt 4 (alertOf high low) 0 ≡ high

@@ -29,6 +29,9 @@ unfoldable pub ddsAlertMake : (high low : ℕ) (alert answer : List ℕ) → Lef
 ddsAlertMake high low alert answer =
     called (answerKept answer) (flags.told (flags.makeCall high low (length alert))) (flags.alertOf high low ∷ []) (alert ∷ []) answer
 
+abbrev pub alertMade : Left → List ℕ
+alertMade m = slice m 0
+
 unfoldable pub ddsAlertRead : (alert answer : List ℕ) → Left
 ddsAlertRead alert answer = called (answerKept answer) (flags.told (flags.readCall alert)) [] [] answer
 

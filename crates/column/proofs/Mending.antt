@@ -7,7 +7,7 @@ use borrow.Author.Tests.{eq-eqb, ne-eqb, le-leb, lt-leb}
 use Rattle.field.specs.Field.{_⊕_, times, power}
 use Rattle.field.specs.Tables.{logarithmAt}
 use Rattle.column.specs.Column.{rowCount, lastRow, firstSum, secondSum, Lawful, withRow, noneWrong, noneMends, rowOfWeight, wrongRow, mended}
-use Rattle.column.specs.Alike.{SameBut, ColumnBytes, Hopeless}
+use Rattle.column.specs.Alike.{SameBut, AtMostOne, ColumnBytes, Hopeless}
 use Rattle.field.proofs.Adding.{⊕-comm, ⊕-back, ⊕-undo, ⊕-equal, ⊕-byte, times-zero}
 use Rattle.field.proofs.TableLaws.{power-logarithm, logarithm-byte}
 use Rattle.field.proofs.FieldLaws.{times-none, power-mod, power-add, logarithm-of-power}
@@ -180,6 +180,18 @@ module _ (col : ℕ → ℕ) (b : ColumnBytes col) where
       go (yes p) (no q) = absurd (n (wrongRow-second s t p q))
       go (no p) (yes q) = absurd (n (wrongRow-first s t p q))
       go (no p) (no q) = by-row p q (decLt d rowCount)
+
+-- Mending writes the wrong row's byte, or none.
+pub mended-one : (col : ℕ → ℕ) → AtMostOne (mended col) col
+unfolding mended
+mended-one col = go (decLt r rowCount)
+  where
+    r : ℕ
+    r = wrongRow (firstSum col) (secondSum col)
+
+    go : Dec (r < rowCount) → AtMostOne (withRow col r (col r ⊕ firstSum col)) col
+    go (yes l) = (r, (l, λ i li d. withRow-other col r (col r ⊕ firstSum col) i d))
+    go (no l) = (0, (omega arith, λ i li d. withRow-other col r (col r ⊕ firstSum col) i (λ e. absurd (omega (arith, l)))))
 
 -- A mended column is of bytes.
 pub mended-bytes : (col : ℕ → ℕ) → ColumnBytes col → wrongRow (firstSum col) (secondSum col) < noneMends → ColumnBytes (mended col)

@@ -19,6 +19,10 @@ SameBut j v w = (i : ℕ) → i < rowCount → (i ≡ j → ⊥) → v i ≡ w i
 abbrev pub SameButTwo : ℕ → ℕ → Column → Column → Type 0
 SameButTwo j k v w = (i : ℕ) → i < rowCount → (i ≡ j → ⊥) → (i ≡ k → ⊥) → v i ≡ w i
 
+-- "at most one byte of the column was changed": the same but in one row.
+abbrev pub AtMostOne : Column → Column → Type 0
+AtMostOne v w = (j : ℕ) × ((j < rowCount) × SameBut j v w)
+
 -- A column that no single change mends: no lawful column of bytes is the same but in one row.
 abbrev pub Hopeless : Column → Type 0
 Hopeless col = (w : Column) (j : ℕ) → j < rowCount → ColumnBytes w → SameBut j col w → Lawful w → ⊥

@@ -85,7 +85,7 @@ unfolding times
 times-byte zero byte h = h
 times-byte (suc k) byte h = timesAlpha-byte (times k byte) (times-byte k byte h)
 
-logarithmAt-zero : logarithmAt 0 ≡ 0
+pub logarithmAt-zero : logarithmAt 0 ≡ 0
 unfolding logarithmAt logarithmTable logarithm
 logarithmAt-zero = refl
 

@@ -201,6 +201,14 @@ not-both a place at e f = let z : _≡_ {A = ℕ} 0 1 = cc in omega arith
 same-place : (a : RadioAnswer) (p q at : ℕ) → a ≡ Found p (p + 3) → a ≡ Found q at → (p ≡ q) × (at ≡ p + 3)
 same-place a p q at e f = (cc, cc)
 
+-- The search refuses nothing.
+pub never-refused : (received : List ℕ) (refusal : ℕ) → firstFrom received 0 (length received) ≡ Refused refusal → ⊥
+never-refused received refusal e = by (sought received 0 (length received))
+  where
+    by : Sought received 0 (length received) (firstFrom received 0 (length received)) → ⊥
+    by (none f h) = let z : _≡_ {A = ℕ} 0 1 = cc in absurd (omega arith)
+    by (some p f b h) = let z : _≡_ {A = ℕ} 0 1 = cc in absurd (omega arith)
+
 pub first-so : (received : List ℕ) (a : RadioAnswer) → a ≡ firstFrom received 0 (length received) → First received a
 first-so received a e = by (sought received 0 (length received))
   where

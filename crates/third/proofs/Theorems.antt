@@ -8,15 +8,16 @@ use Prim.Native.Nat.{ℕ, _<_, _≤_}
 use native.Mathlib.Decide.{decLt}
 use native.Mathlib.Omega.{arith}
 use lib.ListN.{length}
-use Rattle.column.specs.Column.{rowCount, lastRow, column, Lawful, lawful, restoredOne, restoredTwo, wrongIn, mended, mendable}
-use Rattle.column.specs.Alike.{ColumnBytes, SameBut, SameButTwo, Hopeless}
+use Rattle.answer.specs.Answer.{ifAccepted}
+use Rattle.column.specs.Column.{rowCount, lastRow, Column, column, Lawful, lawful, restoredOne, restoredTwo, wrongIn, mended, mendable}
+use Rattle.column.specs.Alike.{ColumnBytes, Same, SameBut, SameButTwo, AtMostOne, Hopeless}
 use Rattle.restoring.specs.Rows.{eachColumn, firstFailing}
 use Rattle.third.specs.declared.ThirdAnswer.{ThirdAnswer}
 use Rattle.third.specs.declared.ThirdAnswer.the-variants.{Accepted, Refused}
-use Rattle.third.specs.Answer.{firstCheckRow, mendCall, Makes, Checks, RestoresOne, RestoresTwo, Mends}
+use Rattle.third.specs.Answer.{firstCheckRow, mendCall, Makes, Checks, RestoresOne, RestoresTwo, Mends, told}
 use Rattle.third.specs.Written.{Lent, Written, MendTold, CheckTold}
 use Rattle.column.proofs.Restoring.{restored-one, restored-two, lawful-two, bytes-two, two-else}
-use Rattle.column.proofs.Mending.{not-refused, mended-right, no-mending, mended-lawful, mended-bytes, not-hopeless}
+use Rattle.column.proofs.Mending.{not-refused, mended-right, mended-one, no-mending, mended-lawful, mended-bytes, not-hopeless}
 use Rattle.column.proofs.Judging.{is-lawful, is-within, is-beyond, within, of-lawful}
 use Rattle.restoring.proofs.Failing.{first}
 use Rattle.third.proofs.Answers.{let-through, found, not-found, make-lets, one-lets, two-lets}
@@ -83,7 +84,7 @@ module _ (n : ℕ) (w old : List ℕ) (a : ThirdAnswer) (rows : List ℕ) (whole
       )
 
   -- "Mending is right where at most one byte of the column was changed."
-  pub third-mended : ((c : ℕ) → c < n → (j : ℕ) × (j < rowCount) × SameBut j (column old n c) (column w n c))
+  pub third-mended : ((c : ℕ) → c < n → AtMostOne (column old n c) (column w n c))
       → Mends n old a rows → (a ≡ Accepted 0) × (rows ≡ w)
   third-mended close m =
       let e = none in (
@@ -91,13 +92,13 @@ module _ (n : ℕ) (w old : List ℕ) (a : ThirdAnswer) (rows : List ℕ) (whole
         accepted-left _ _ n old a rows m 0 e
             ∙ back mended n old w (whole .lent .long)
             (λ c lc. let p = close c lc in
-            mended-right (column old n c) (column w n c) (p .0) (p .1) (bytes c) (bytes-written c) (whole .law c lc) (p .2)),
+            mended-right (column old n c) (column w n c) (p .0) (p .1 .0) (bytes c) (bytes-written c) (whole .law c lc) (p .1 .1)),
       )
     where
       all-within : (c : ℕ) → c < n → mendable (column old n c) ≡ true
       all-within c lc =
           let p = close c lc in
-          let r = not-refused (column old n c) (column w n c) (p .0) (p .1) (bytes c) (bytes-written c) (whole .law c lc) (p .2) in
+          let r = not-refused (column old n c) (column w n c) (p .0) (p .1 .0) (bytes c) (bytes-written c) (whole .law c lc) (p .1 .1) in
           within (column old n c) (wrongIn (column old n c)) refl (omega arith)
 
       none : mendCall old n ≡ Accepted 0
@@ -107,6 +108,26 @@ module _ (n : ℕ) (w old : List ℕ) (a : ThirdAnswer) (rows : List ℕ) (whole
           last : Dec (firstFailing mendable old n 0 n < n) → n ≤ firstFailing mendable old n 0 n
           last (yes h) = absurd (true-false (sym (all-within _ h) ∙ first mendable old n 0 n .at (omega arith)))
           last (no h) = omega (arith, h)
+
+-- "Mending is right where at most one byte of the column was changed", column by column: where mending is accepted, such a column
+-- comes back, whatever the others were.
+pub third-mended-column : (n : ℕ) (old rows : List ℕ) → Lent n old → Mends n old (Accepted 0) rows → (c : ℕ) → c < n
+    → (w : Column) → ColumnBytes w → Lawful w → AtMostOne (column old n c) w → Same (column rows n c) w
+third-mended-column n old rows l m c lc w b law close i li =
+    ap (λ (x : List ℕ). column x n c i) (accepted-left _ _ n old (Accepted 0) rows m 0 (sym (m .answer)))
+    ∙ column-each mended n old c i lc li
+    ∙ mended-right (column old n c) w (close .0) (close .1 .0) (bytes-of-column old n c (l .bytes)) b law (close .1 .1) i li
+
+-- "mend one wrong byte a column": of no column does mending write more than one byte, whatever it answers.
+pub third-mends-one : (n : ℕ) (old : List ℕ) (a : ThirdAnswer) (rows : List ℕ) → Mends n old a rows → (c : ℕ) → c < n
+    → AtMostOne (column rows n c) (column old n c)
+third-mends-one n old a rows m c lc = by a (m .rows-left)
+  where
+    by : (b : ThirdAnswer) → rows ≡ ifAccepted (told b) (eachColumn mended n old) old → AtMostOne (column rows n c) (column old n c)
+    by (Accepted outcome) e =
+        let one = mended-one (column old n c) in
+        (one .0, (one .1 .0, λ i li d. ap (λ (x : List ℕ). column x n c i) e ∙ column-each mended n old c i lc li ∙ one .1 .1 i li d))
+    by (Refused refusal place) e = (0, (omega arith, λ i li d. ap (λ (x : List ℕ). column x n c i) e))
 
 -- "43 a column that no single change mends (the whole buffer then stays)": either every column is mended, or its place is a column
 -- that no single change mends, and the first of them.

@@ -3,21 +3,22 @@
 use mathlib.Core.Path.{_≡_, refl, sym, ap, _∙_}
 use mathlib.Core.Bool.{Bool, true, false, cond, not}
 use mathlib.Core.List.{List, _++_}
-use Prim.Native.Nat.{ℕ, _+_, _-_, _≤_, _<_}
+use Prim.Native.Nat.{ℕ, zero, suc, _+_, _-_, _≤_, _<_}
 use native.Mathlib.Omega.{arith}
-use borrow.Author.Tests.{eq-eqb, ne-eqb, eqb-true, le-leb, lt-leb, not-false}
+use borrow.Author.Tests.{eq-eqb, ne-eqb, eqb-true, le-leb, lt-leb, leb-true, not-false}
 use lib.Dec.{T, eqb}
 use lib.Bits.{bitAnd}
 use lib.ListN.{length, getD, take, drop, replicate, length-append, length-drop, length-replicate, take-append-drop}
 use lib.Seq.{length-take-le, take-at, drop-at, drop-drop, getD-take, getD-drop}
+use Rattle.answer.specs.declared.Told.the-variants as answer
 use Rattle.answer.specs.Answer.{ifAccepted}
 use Rattle.numbers.specs.Store.{put, zeros}
 use Rattle.numbers.proofs.Stores.{put-put, put-whole, take-rest, zeros-are}
 use Rattle.numbers.proofs.Computed.{every, below}
 use Rattle.numbers.proofs.Tests.{both, passed}
 use Rattle.volume.specs.declared.VolumeAnswer.{VolumeAnswer}
-use Rattle.volume.specs.declared.VolumeAnswer.the-variants.{Refused}
-use Rattle.volume.specs.Information.{volumeLength, fieldsLength, lengthAndThickness, flags, volumeOf, fieldsOf, lengthsKept, reservedKept, thickness, flagsKept}
+use Rattle.volume.specs.declared.VolumeAnswer.the-variants.{TypeA, TypeB, Refused}
+use Rattle.volume.specs.Information.{volumeLength, fieldsLength, lengthAndThickness, flags, volumeOf, fieldsOf, lengthsKept, reservedKept, thickness, thicknessKept, flagsKept}
 use Rattle.volume.specs.Information.{byteRefusal, makeRefusal, readRefusal, typeOf, answerOf, refusalOf, told}
 
 -- The volume, stored in three pieces.
@@ -174,6 +175,22 @@ unfolding answerOf
 filled refusal fields a new old after e z f =
     let typed : a ≡ typeOf (lengthAndThickness fields) = e ∙ rw z in
     f ∙ ap (λ (b : VolumeAnswer). ifAccepted (told b) new old) typed ∙ typed-left (lengthAndThickness fields) new old
+
+-- .. and its outcome is the two thickness bits.
+pub thickness-most : (byte flags : ℕ) → byteRefusal byte flags ≡ 0 → thickness byte ≤ 1
+unfolding byteRefusal
+thickness-most byte flags k = leb-true (thickness byte) 1 (not-false _ (passed (not (thicknessKept byte)) 61 k .0))
+
+pub type-told : (refusal : ℕ) (fields : List ℕ) → refusal ≡ 0 → byteRefusal (lengthAndThickness fields) (flags fields) ≡ 0
+    → told (answerOf refusal fields) ≡ answer.Accepted (thickness (lengthAndThickness fields)) 0 0 0
+unfolding answerOf
+type-told refusal fields z k =
+    rw (eq-eqb refusal 0 z) (by (thickness (lengthAndThickness fields)) (thickness-most (lengthAndThickness fields) (flags fields) k))
+  where
+    by : (bits : ℕ) → bits ≤ 1 → told (cond (eqb bits 0) TypeA TypeB) ≡ answer.Accepted bits 0 0 0
+    by zero h = refl
+    by (suc zero) h = refl
+    by (suc (suc more)) h = absurd (omega arith)
 
 -- Nothing is refused where all is kept.
 pub make-accepts : (fields : List ℕ) (volume : ℕ) → MakeKept fields volume → makeRefusal fields volume ≡ 0
