@@ -1,0 +1,3 @@
+-- The proofs; Theorems has what is cited.
+pub mod Fills
+pub mod Theorems
