@@ -223,7 +223,7 @@ end-fills warn s g o = by (s .phase) refl (o .shut) (endsEmpty s) refl
         closed-filled g 0 _ (here-ready (anEnd warn) s g p e a) (some-stands s g warn p e n f)
         (subst (λ (q : Phase). GapAfter q (anEnd warn) (s .size - span (payOwed p (desk (warnState warn s) g) .state .filled) (payOwed p (desk (warnState warn s) g) .state .entries + 1))) (sym (paid-free s g warn p e n)) tt)
 
--- How full a group is that a call closes, call by call.
+-- Every call.
 pub fills : (c : Call) (w : Desk) → FilledBy c w (call c w .answer) (call c w .group)
 unfolding call recordCall separatorCall endCall
 fills (aRecord bytes warn) w = or-filled (aRecord bytes warn) _ w _ (λ e. record-fills bytes warn (w .state) (w .group) (record-accepted (w .state) (w .group) (length bytes) e))

@@ -1,3 +1,4 @@
 -- The proofs; Theorems has what is cited.
 pub mod Fills
+pub mod Lays
 pub mod Theorems

@@ -1,2 +1,4 @@
--- What a reader of this crate must believe, in document 01's words and by what a caller sees: how full a closed group is.
+-- What a reader of this crate must believe, in document 01's words and by what a caller sees: how full a closed group is; what a
+-- call lays and leaves.
 pub mod Filled
+pub mod Laid
