@@ -1,11 +1,20 @@
 -- The theorems of this crate, each under document 01's sentence.
 -- Assumes nothing.
+use Prim.Native.Nat.{ℕ, _≤_}
+use mathlib.Core.List.{List}
+use mathlib.Core.Path.{_≡_, _∙_}
+use Rattle.answer.specs.Answer.{refusalTold}
 use Rattle.laying.specs.Laying.{Desk}
-use Rattle.writer.specs.Calls.{Call, call}
+use Rattle.writer.specs.Calls.{Call, call, told}
+use Rattle.writer.proofs.Theorems.{refusal-told}
+use Rattle.layout.specs.Layout.{Image}
+use Rattle.layout.specs.Writing.{Account, Wrote}
 use Rattle.twice.specs.Filled.{FilledBy}
 use Rattle.twice.specs.Laid.{LaidBy}
+use Rattle.twice.specs.Taking.{Proper}
 use Rattle.twice.proofs.Fills as filling
 use Rattle.twice.proofs.Lays as laying
+use Rattle.twice.proofs.Takes as taking
 
 -- "Closing sets the gap to zeros." Every close, from any state, leaves its group as full as what was offered can make it: data,
 -- zeros, the skip and what stands behind it; no gap where a record goes on, and none that the next entry would have fitted into.
@@ -17,3 +26,9 @@ fills = filling.fills
 -- says how many. Old table and old data stay, and where the call finishes so does each byte between them.
 pub lays : (c : Call) (w : Desk) → LaidBy c w (call c w .answer) (call c w .group)
 lays = laying.lays
+
+-- "Useless versions: refusing all": in a run that was written from its start, with whatever calls and refusals, no proper call is
+-- refused while a group number remains.
+pub takes : {size first : ℕ} {w : Desk} {run : List Image} {closed now : Account} (c : Call) → Wrote size first w run closed now →
+    w .state .next ≤ 65535 → Proper c (w .state .phase) now → refusalTold (told (call c w .answer)) ≡ 0
+takes {w = w} c x n p = refusal-told c w ∙ taking.takes c x n p
