@@ -2,4 +2,5 @@
 pub mod Fills
 pub mod Lays
 pub mod Takes
+pub mod Rows
 pub mod Theorems

@@ -3,7 +3,11 @@
 use Prim.Native.Nat.{ℕ, _≤_}
 use mathlib.Core.List.{List}
 use mathlib.Core.Path.{_≡_, _∙_}
+use lib.ListN.{length}
 use Rattle.answer.specs.Answer.{refusalTold}
+use Rattle.reader.specs.declared.Reader.{Reader}
+use Rattle.reader.specs.declared.ReadAnswer.the-variants as answer
+use Rattle.reader.specs.Answer.{asNumbers, Reads}
 use Rattle.laying.specs.Laying.{Desk}
 use Rattle.writer.specs.Calls.{Call, call, told}
 use Rattle.writer.proofs.Theorems.{refusal-told}
@@ -12,12 +16,14 @@ use Rattle.layout.specs.Writing.{Account, Wrote}
 use Rattle.twice.specs.Filled.{FilledBy}
 use Rattle.twice.specs.Laid.{LaidBy}
 use Rattle.twice.specs.Taking.{Proper}
+use Rattle.twice.specs.RowsAre.{RowsAre}
 use Rattle.twice.proofs.Fills as filling
 use Rattle.twice.proofs.Lays as laying
 use Rattle.twice.proofs.Takes as taking
+use Rattle.twice.proofs.Rows as rowed
 
--- "Closing sets the gap to zeros." Every close, from any state, leaves its group as full as what was offered can make it: data,
--- zeros, the skip and what stands behind it; no gap where a record goes on, and none that the next entry would have fitted into.
+-- "Closing sets the gap to zeros." Every close, from any state, leaves data, zeros, the skip and what stands behind it, with two
+-- entries at least; no gap where a record goes on, one too small where an item did not fit or a total is owed, any at an end.
 pub fills : (c : Call) (w : Desk) → FilledBy c w (call c w .answer) (call c w .group)
 fills = filling.fills
 
@@ -32,3 +38,9 @@ lays = laying.lays
 pub takes : {size first : ℕ} {w : Desk} {run : List Image} {closed now : Account} (c : Call) → Wrote size first w run closed now →
     w .state .next ≤ 65535 → Proper c (w .state .phase) now → refusalTold (told (call c w .answer)) ≡ 0
 takes {w = w} c x n p = refusal-told c w ∙ taking.takes c x n p
+
+-- "kind, data offset reached before this entry, count. Rows after the n-th are untouched." The rows of every accepted read, from any
+-- state and over any buffer: row k is kind, data before and count of the entry at L − 32 − 4k, and what stands behind row n stays.
+pub rows-are : (s t : Reader) (group : List ℕ) (number n : ℕ) (old rows : List ℕ) →
+    Reads asNumbers s group number n (length old) old (answer.Accepted t) rows → RowsAre (s .size) n group old rows
+rows-are = rowed.rows-are

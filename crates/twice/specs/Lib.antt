@@ -1,5 +1,6 @@
 -- What a reader of this crate must believe, in document 01's words and by what a caller sees: how full a closed group is; what a
--- call lays and leaves; which calls are taken.
+-- call lays and leaves; which calls are taken; what a read's rows are.
 pub mod Filled
 pub mod Laid
 pub mod Taking
+pub mod RowsAre
