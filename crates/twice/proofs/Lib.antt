@@ -3,4 +3,5 @@ pub mod Fills
 pub mod Lays
 pub mod Takes
 pub mod Rows
+pub mod InOrder
 pub mod Theorems

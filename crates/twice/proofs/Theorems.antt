@@ -7,9 +7,11 @@ use lib.ListN.{length}
 use Rattle.answer.specs.Answer.{refusalTold}
 use Rattle.reader.specs.declared.Reader.{Reader}
 use Rattle.reader.specs.declared.ReadAnswer.the-variants as answer
-use Rattle.reader.specs.Answer.{asNumbers, Reads}
+use Rattle.reader.specs.Answer as reading
+use Rattle.reader.specs.Answer.{readerStartCall, asNumbers, Reads}
+use Rattle.laying.specs.Start.{writerStartCall}
 use Rattle.laying.specs.Laying.{Desk}
-use Rattle.writer.specs.Calls.{Call, call, told}
+use Rattle.writer.specs.Calls.{Call, call, told, startTold}
 use Rattle.writer.proofs.Theorems.{refusal-told}
 use Rattle.layout.specs.Layout.{Image}
 use Rattle.layout.specs.Writing.{Account, Wrote}
@@ -17,10 +19,12 @@ use Rattle.twice.specs.Filled.{FilledBy}
 use Rattle.twice.specs.Laid.{LaidBy}
 use Rattle.twice.specs.Taking.{Proper}
 use Rattle.twice.specs.RowsAre.{RowsAre}
+use Rattle.twice.specs.Orders.{FirstBroken, startRules, callRules, BeforeScan}
 use Rattle.twice.proofs.Fills as filling
 use Rattle.twice.proofs.Lays as laying
 use Rattle.twice.proofs.Takes as taking
 use Rattle.twice.proofs.Rows as rowed
+use Rattle.twice.proofs.InOrder as ordered
 
 -- "Closing sets the gap to zeros." Every close, from any state, leaves data, zeros, the skip and what stands behind it, with two
 -- entries at least; no gap where a record goes on, one too small where an item did not fit or a total is owed, any at an end.
@@ -44,3 +48,18 @@ takes {w = w} c x n p = refusal-told c w ∙ taking.takes c x n p
 pub rows-are : (s t : Reader) (group : List ℕ) (number n : ℕ) (old rows : List ℕ) →
     Reads asNumbers s group number n (length old) old (answer.Accepted t) rows → RowsAre (s .size) n group old rows
 rows-are = rowed.rows-are
+
+-- "Order: start 2, 3." What is told of a start, a reader's and a writer's, is the first of its rules that is broken.
+pub reader-start-order : (size first : ℕ) → FirstBroken (startRules size first) (refusalTold (reading.startTold (readerStartCall size first)))
+reader-start-order = ordered.reader-start-order
+
+pub writer-start-order : (size first : ℕ) → FirstBroken (startRules size first) (refusalTold (startTold (writerStartCall size first)))
+writer-start-order = ordered.writer-start-order
+
+-- "Read 1, 4, 5, 6, 7, then entry by entry": so before its scan a read.
+pub read-order : (s : Reader) (group : List ℕ) (number n room : ℕ) → BeforeScan s group number n room
+read-order = ordered.read-order
+
+-- "Record 1, 4, 14, 15, 16. Separator 1, 4, 14, 17, 18. End 1, 4, 17, 14": so the writer's three calls.
+pub call-order : (c : Call) (w : Desk) → FirstBroken (callRules c w) (refusalTold (told (call c w .answer)))
+call-order = ordered.call-order
