@@ -5,10 +5,8 @@ use native.Mathlib.Omega.{arith}
 use mathlib.Core.List.{List, _++_, append-assoc}
 use mathlib.Core.Bool.{Bool, true, false, cond, _||_, true≢false}
 use mathlib.Core.Path.{_≡_, refl, sym, ap, _∙_, subst}
-use lib.Dec.{eqb}
 use lib.ListN.{length, take, drop, replicate, length-replicate, length-append, length-drop}
 use lib.Seq.{length-take-le}
-use borrow.Author.Tests.{eqb-true}
 use Rattle.group.specs.declared.Kind.{Kind}
 use Rattle.group.specs.declared.Kind.the-variants as kind
 use Rattle.group.specs.declared.Phase.{Phase}
@@ -20,15 +18,15 @@ use Rattle.group.specs.Entries.{entry, entryBytes}
 use Rattle.numbers.proofs.Stores.{length-put, put-split, put-before}
 use Rattle.group.proofs.EntryLaws.{length-entry}
 use Rattle.laying.specs.declared.Writer.{Writer}
-use Rattle.writer.specs.declared.WriteAnswer.the-variants.{Refused}
 use Rattle.sound.specs.State.{isFree, isInside, endsEmpty}
 use Rattle.laying.specs.Laying.{Desk, desk, layEntry, layData, layPart, moved, laySkip, zeroGap, shut, warnState, payOwed, ready}
-use Rattle.writer.specs.Calls.{Call, Done, done, call, finished, closed, orRefused, recordAccepted, recordCall, separatorAccepted, separatorCall, endAccepted, endCall}
+use Rattle.writer.specs.Calls.{Call, Done, call, finished, closed, recordAccepted, recordCall, separatorAccepted, separatorCall, endAccepted, endCall}
 use Rattle.writer.specs.Calls.Call.{aRecord, aSeparator, anEnd}
 use Rattle.laying.specs.Bounds.{span}
 use Rattle.sound.proofs.SoundLaws.{Sound}
 use Rattle.sound.proofs.Accepted.{Accepted, Offered, Separated, Ended, fits, record-accepted, separator-accepted, end-accepted}
 use Rattle.writer.proofs.CallLaws.{RecordedFree, recorded-free, RecordedInside, recorded-inside, SeparatorLaid, separator-laid}
+use Rattle.twice.proofs.Paid.{paid-free, Bare, bare, guarded}
 use Rattle.twice.specs.Filled.{warnOf, GapAfter, Filled, FilledBy}
 
 -- A desk in the midst of a call: its size and b4, its buffer's length, room for the skip.
@@ -138,16 +136,22 @@ free-filled bytes warn s g v h p some (RecordedFree.nothing k) =
     let sized = h .sized in
     closed-filled g 0 v h (some (omega arith)) (subst (λ (q : Phase). GapAfter q (aRecord bytes warn) (s .size - span (v .state .filled) (v .state .entries + 1))) (sym p) (omega arith))
 
-inside-filled : (bytes : List ℕ) (warn : Bool) (s : Writer) (g : List ℕ) (v : Desk) {d : Done} → Here (aRecord bytes warn) s v → (v .state .filled ≡ 0) × (v .state .entries ≡ 0) → 64 ≤ s .size →
+inside-filled : (bytes : List ℕ) (warn : Bool) (s : Writer) (g : List ℕ) (v : Desk) {d : Done} → Here (aRecord bytes warn) s v → Bare (v .state) →
     RecordedInside bytes v d → FilledBy (aRecord bytes warn) (desk s g) (d .answer) (d .group)
 unfolding finished moved layPart layData layEntry
-inside-filled bytes warn s g v h none low (RecordedInside.part n e less) =
+inside-filled bytes warn s g v h none (RecordedInside.part n e less) =
     let l : length (take n bytes) ≡ n = length-take-le n bytes (omega arith) in
     let sized = h .sized in
+    let filled = none .filled in
+    let entries = none .entries in
+    let least = none .least in
     closed-filled g n (moved Inside (v .state .sum + n) (length bytes - n) (layPart kind.Middle (take n bytes) v)) (here-part kind.Middle (take n bytes) Inside (v .state .sum + n) (length bytes - n) v (omega arith) h) (omega arith) (omega arith)
-inside-filled bytes warn s g v h none low (RecordedInside.total k) = tt
-inside-filled bytes warn s g v h none low (RecordedInside.owed k m) =
+inside-filled bytes warn s g v h none (RecordedInside.total k) = tt
+inside-filled bytes warn s g v h none (RecordedInside.owed k m) =
     let sized = h .sized in
+    let filled = none .filled in
+    let entries = none .entries in
+    let least = none .least in
     closed-filled g (length bytes) (moved Owed (v .state .sum + length bytes) 0 (layPart kind.Last bytes v)) (here-part kind.Last bytes Owed (v .state .sum + length bytes) 0 v (omega arith) h) (omega arith) (omega arith)
 
 separator-filled : (value : ℕ) (warn : Bool) (s : Writer) (g : List ℕ) (v : Desk) {d : Done} → Here (aSeparator value warn) s v → v .state .phase ≡ Free →
@@ -157,25 +161,6 @@ separator-filled value warn s g v h p some (SeparatorLaid.laid k) = tt
 separator-filled value warn s g v h p some (SeparatorLaid.not-laid k) =
     let sized = h .sized in
     closed-filled g 0 v h (some (omega arith)) (subst (λ (q : Phase). GapAfter q (aSeparator value warn) (s .size - span (v .state .filled) (v .state .entries + 1))) (sym p) (omega arith))
-
--- Once an owed total is laid the writer is free, where it was not inside a record.
-paid-free : (s : Writer) (g : List ℕ) (b : Bool) (p : Phase) → s .phase ≡ p → isInside p ≡ false → payOwed p (desk (warnState b s) g) .state .phase ≡ Free
-unfolding payOwed moved warnState
-paid-free s g b Free e n = e
-paid-free s g b Inside e n = let z : _≡_ {A = ℕ} 0 1 = cc in absurd (omega arith)
-paid-free s g b Owed e n = refl
-
-or-filled : (c : Call) (n : ℕ) (w : Desk) (d : Done) → (n ≡ 0 → FilledBy c w (d .answer) (d .group)) → FilledBy c w (orRefused n w d .answer) (orRefused n w d .group)
-unfolding orRefused
-or-filled c n w d h = by (eqb n 0) refl
-  where
-    by : (b : Bool) → eqb n 0 ≡ b → FilledBy c w (cond b d (done (Refused (w .state) n) (w .group)) .answer) (cond b d (done (Refused (w .state) n) (w .group)) .group)
-    by true e = h (eqb-true n 0 e)
-    by false e = tt
-
-none-inside : (s : Writer) (g : List ℕ) (b : Bool) → Sound s → s .phase ≡ Inside → (payOwed Inside (desk (warnState b s) g) .state .filled ≡ 0) × (payOwed Inside (desk (warnState b s) g) .state .entries ≡ 0)
-unfolding payOwed warnState
-none-inside s g b t e = t .empty (ap isFree e)
 
 record-fills : (bytes : List ℕ) (warn : Bool) (s : Writer) (g : List ℕ) → Offered s g (length bytes) →
     FilledBy (aRecord bytes warn) (desk s g) (recordAccepted (s .phase) bytes (ready warn (desk s g)) .answer) (recordAccepted (s .phase) bytes (ready warn (desk s g)) .group)
@@ -187,7 +172,7 @@ record-fills bytes warn s g o = by (s .phase) refl
 
     by : (p : Phase) → s .phase ≡ p → FilledBy (aRecord bytes warn) (desk s g) (recordAccepted p bytes (payOwed p (desk (warnState warn s) g)) .answer) (recordAccepted p bytes (payOwed p (desk (warnState warn s) g)) .group)
     by Free e = free-filled bytes warn s g _ (here-ready (aRecord bytes warn) s g Free e (o .accepted)) (paid-free s g warn Free e refl) (entry-stands s g warn Free e t) (recorded-free bytes _)
-    by Inside e = inside-filled bytes warn s g _ (here-ready (aRecord bytes warn) s g Inside e (o .accepted)) (none-inside s g warn t e) (t .run .least) (recorded-inside bytes _)
+    by Inside e = inside-filled bytes warn s g _ (here-ready (aRecord bytes warn) s g Inside e (o .accepted)) (bare s g warn t e) (recorded-inside bytes _)
     by Owed e = free-filled bytes warn s g _ (here-ready (aRecord bytes warn) s g Owed e (o .accepted)) (paid-free s g warn Owed e refl) (entry-stands s g warn Owed e t) (recorded-free bytes _)
 
 separator-fills : (value : ℕ) (warn : Bool) (s : Writer) (g : List ℕ) → Separated s g value →
@@ -226,6 +211,6 @@ end-fills warn s g o = by (s .phase) refl (o .shut) (endsEmpty s) refl
 -- Every call.
 pub fills : (c : Call) (w : Desk) → FilledBy c w (call c w .answer) (call c w .group)
 unfolding call recordCall separatorCall endCall
-fills (aRecord bytes warn) w = or-filled (aRecord bytes warn) _ w _ (λ e. record-fills bytes warn (w .state) (w .group) (record-accepted (w .state) (w .group) (length bytes) e))
-fills (aSeparator value warn) w = or-filled (aSeparator value warn) _ w _ (λ e. separator-fills value warn (w .state) (w .group) (separator-accepted (w .state) (w .group) value e))
-fills (anEnd warn) w = or-filled (anEnd warn) _ w _ (λ e. end-fills warn (w .state) (w .group) (end-accepted (w .state) (w .group) e))
+fills (aRecord bytes warn) w = guarded (λ (d : Done). FilledBy (aRecord bytes warn) w (d .answer) (d .group)) _ w _ tt (λ e. record-fills bytes warn (w .state) (w .group) (record-accepted (w .state) (w .group) (length bytes) e))
+fills (aSeparator value warn) w = guarded (λ (d : Done). FilledBy (aSeparator value warn) w (d .answer) (d .group)) _ w _ tt (λ e. separator-fills value warn (w .state) (w .group) (separator-accepted (w .state) (w .group) value e))
+fills (anEnd warn) w = guarded (λ (d : Done). FilledBy (anEnd warn) w (d .answer) (d .group)) _ w _ tt (λ e. end-fills warn (w .state) (w .group) (end-accepted (w .state) (w .group) e))

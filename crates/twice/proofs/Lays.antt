@@ -3,12 +3,10 @@
 use Prim.Native.Nat.{ℕ, suc, _+_, _-_, _≤_, _<_}
 use native.Mathlib.Omega.{arith}
 use mathlib.Core.List.{List, [], _∷_, _++_, append-assoc, append-nil}
-use mathlib.Core.Bool.{Bool, true, false, cond, _||_}
+use mathlib.Core.Bool.{Bool, _||_}
 use mathlib.Core.Path.{_≡_, refl, sym, ap, _∙_, subst}
-use lib.Dec.{eqb}
 use lib.ListN.{length, take, drop, getD, set, replicate, length-replicate, length-append}
 use lib.Seq.{sets, getD-set-other, length-take-le, drop-at, take-at, take-length}
-use borrow.Author.Tests.{eqb-true}
 use Rattle.group.specs.declared.Kind.{Kind}
 use Rattle.group.specs.declared.Kind.the-variants as kind
 use Rattle.group.specs.declared.Entry.{Entry}
@@ -22,17 +20,16 @@ use Rattle.numbers.proofs.Stores.{length-put, put-split, take-put, drop-put}
 use Rattle.group.proofs.EntryLaws.{length-entry}
 use Rattle.group.proofs.FlagLaws.{b4-of-flag}
 use Rattle.laying.specs.declared.Writer.{Writer}
-use Rattle.writer.specs.declared.WriteAnswer.the-variants.{Refused}
 use Rattle.sound.specs.State.{isFree}
 use Rattle.laying.specs.Laying.{Desk, desk, layEntry, layData, layPart, moved, laySkip, zeroGap, shut, warnState, payOwed, ready}
-use Rattle.writer.specs.Calls.{Call, Done, done, call, finished, closed, orRefused, recordAccepted, recordCall, separatorCall, endAccepted, endCall}
+use Rattle.writer.specs.Calls.{Call, Done, call, finished, closed, recordAccepted, recordCall, separatorCall, endAccepted, endCall}
 use Rattle.writer.specs.Calls.Call.{aRecord, aSeparator, anEnd}
 use Rattle.laying.specs.Bounds.{span}
-use Rattle.sound.proofs.SoundLaws.{Sound}
 use Rattle.sound.proofs.Accepted.{Accepted, Offered, Ended, fits, record-accepted, separator-accepted, end-accepted}
 use Rattle.writer.proofs.CallLaws.{RecordedFree, recorded-free, RecordedInside, recorded-inside, SeparatorLaid, separator-laid, EndLaid, end-laid}
 use Rattle.layout.specs.Items.{Each}
 use Rattle.layout.specs.Items.Each.{each-none, each-more}
+use Rattle.twice.proofs.Paid.{Bare, bare, guarded}
 use Rattle.twice.specs.Filled.{warnOf}
 use Rattle.twice.specs.Laid.{offerOf, LaidIn, b4After, LaidBy}
 
@@ -291,17 +288,27 @@ nothing-laid warn s g =
     none : s .filled + 0 ≡ s .filled
     none = omega arith
 
-inside-laid : (bytes : List ℕ) (warn : Bool) (w v : Desk) {d : Done} → Fresh (aRecord bytes warn) w v → (v .state .filled ≡ 0) × (v .state .entries ≡ 0) → 64 ≤ v .state .size →
+inside-laid : (bytes : List ℕ) (warn : Bool) (w v : Desk) {d : Done} → Fresh (aRecord bytes warn) w v → Bare (v .state) →
     RecordedInside bytes v d → LaidBy (aRecord bytes warn) w (d .answer) (d .group)
 unfolding layPart layData layEntry moved mid-part mid-entry mid-data mid-total
-inside-laid bytes warn w v f none low (RecordedInside.part n e less) =
+inside-laid bytes warn w v f none (RecordedInside.part n e less) =
+    let filled = none .filled in
+    let entries = none .entries in
+    let least = none .least in
     let l : length (take n bytes) ≡ n = length-take-le n bytes (omega arith) in
     laid-shut w n (moved Inside (v .state .sum + n) (length bytes - n) (layPart kind.Middle (take n bytes) v))
     (roomy kind.Middle (take n bytes) Inside (v .state .sum + n) (length bytes - n) v (omega arith))
     (f .next)
     (mid-part kind.Middle (take n bytes) Inside (v .state .sum + n) (length bytes - n) v (omega arith) f (first-of n bytes (omega arith))) (sym l)
-inside-laid bytes warn w v f none low (RecordedInside.total h) = laid-done w _ refl (mid-total (v .state .sum + length bytes) v bytes (omega arith) (mid-part kind.Last bytes (v .state .phase) (v .state .sum) (v .state .rest) v (omega arith) f (whole bytes))) refl
-inside-laid bytes warn w v f none low (RecordedInside.owed h k) =
+inside-laid bytes warn w v f none (RecordedInside.total h) =
+    let filled = none .filled in
+    let entries = none .entries in
+    let least = none .least in
+    laid-done w _ refl (mid-total (v .state .sum + length bytes) v bytes (omega arith) (mid-part kind.Last bytes (v .state .phase) (v .state .sum) (v .state .rest) v (omega arith) f (whole bytes))) refl
+inside-laid bytes warn w v f none (RecordedInside.owed h k) =
+    let filled = none .filled in
+    let entries = none .entries in
+    let least = none .least in
     laid-shut w (length bytes) (moved Owed (v .state .sum + length bytes) 0 (layPart kind.Last bytes v))
     (roomy kind.Last bytes Owed (v .state .sum + length bytes) 0 v (omega arith))
     (f .next)
@@ -312,10 +319,6 @@ unfolding layEntry mid-entry
 separator-laid-so value warn w v f (SeparatorLaid.laid h) = laid-done w (layEntry kind.Separator value v) refl (mid-entry kind.Separator value (f .room) (f .mid)) (f .none)
 separator-laid-so value warn w v f (SeparatorLaid.not-laid h) = laid-shut w 0 v (f .room) (f .next) (f .mid) (sym (ap length (f .none)))
 
-none-inside : (s : Writer) (g : List ℕ) (b : Bool) → Sound s → s .phase ≡ Inside → (payOwed Inside (desk (warnState b s) g) .state .filled ≡ 0) × ((payOwed Inside (desk (warnState b s) g) .state .entries ≡ 0) × (64 ≤ payOwed Inside (desk (warnState b s) g) .state .size))
-unfolding payOwed warnState
-none-inside s g b t e = let n = t .empty (ap isFree e) in (n .0, (n .1, t .run .least))
-
 record-lays : (bytes : List ℕ) (warn : Bool) (s : Writer) (g : List ℕ) → Offered s g (length bytes) →
     LaidBy (aRecord bytes warn) (desk s g) (recordAccepted (s .phase) bytes (ready warn (desk s g)) .answer) (recordAccepted (s .phase) bytes (ready warn (desk s g)) .group)
 unfolding recordAccepted ready
@@ -324,8 +327,7 @@ record-lays bytes warn s g o = by (s .phase) refl
     by : (p : Phase) → s .phase ≡ p → LaidBy (aRecord bytes warn) (desk s g) (recordAccepted p bytes (payOwed p (desk (warnState warn s) g)) .answer) (recordAccepted p bytes (payOwed p (desk (warnState warn s) g)) .group)
     by Free e = free-laid bytes warn (desk s g) _ (fresh-ready (aRecord bytes warn) s g Free e (o .accepted)) (recorded-free bytes _)
     by Inside e =
-        let n = none-inside s g warn (o .accepted .sound) e in
-        inside-laid bytes warn (desk s g) _ (fresh-ready (aRecord bytes warn) s g Inside e (o .accepted)) (n .0, n .1 .0) (n .1 .1) (recorded-inside bytes _)
+        inside-laid bytes warn (desk s g) _ (fresh-ready (aRecord bytes warn) s g Inside e (o .accepted)) (bare s g warn (o .accepted .sound) e) (recorded-inside bytes _)
     by Owed e = free-laid bytes warn (desk s g) _ (fresh-ready (aRecord bytes warn) s g Owed e (o .accepted)) (recorded-free bytes _)
 
 end-lays : (warn : Bool) (s : Writer) (g : List ℕ) → Ended s g → LaidBy (anEnd warn) (desk s g) (endAccepted warn (desk s g) .answer) (endAccepted warn (desk s g) .group)
@@ -338,19 +340,11 @@ end-lays warn s g o = by (end-laid warn (desk s g))
         let f = fresh-ready (anEnd warn) s g (s .phase) refl (record { sound = o .sound; long = o .long; next = o .next e }) in
         laid-shut (desk s g) 0 (payOwed (s .phase) (desk (warnState warn s) g)) (f .room) (f .next) (f .mid) (sym (ap length (f .none)))
 
-or-laid : (c : Call) (n : ℕ) (w : Desk) (d : Done) → (n ≡ 0 → LaidBy c w (d .answer) (d .group)) → LaidBy c w (orRefused n w d .answer) (orRefused n w d .group)
-unfolding orRefused
-or-laid c n w d h = by (eqb n 0) refl
-  where
-    by : (b : Bool) → eqb n 0 ≡ b → LaidBy c w (cond b d (done (Refused (w .state) n) (w .group)) .answer) (cond b d (done (Refused (w .state) n) (w .group)) .group)
-    by true e = h (eqb-true n 0 e)
-    by false e = tt
-
 -- Every call.
 pub lays : (c : Call) (w : Desk) → LaidBy c w (call c w .answer) (call c w .group)
 unfolding call recordCall separatorCall endCall ready
-lays (aRecord bytes warn) w = or-laid (aRecord bytes warn) _ w _ (λ e. record-lays bytes warn (w .state) (w .group) (record-accepted (w .state) (w .group) (length bytes) e))
+lays (aRecord bytes warn) w = guarded (λ (d : Done). LaidBy (aRecord bytes warn) w (d .answer) (d .group)) _ w _ tt (λ e. record-lays bytes warn (w .state) (w .group) (record-accepted (w .state) (w .group) (length bytes) e))
 lays (aSeparator value warn) w =
-    or-laid (aSeparator value warn) _ w _
+    guarded (λ (d : Done). LaidBy (aSeparator value warn) w (d .answer) (d .group)) _ w _ tt
     (λ e. separator-laid-so value warn w _ (fresh-ready (aSeparator value warn) (w .state) (w .group) (w .state .phase) refl (separator-accepted (w .state) (w .group) value e .accepted)) (separator-laid value _))
-lays (anEnd warn) w = or-laid (anEnd warn) _ w _ (λ e. end-lays warn (w .state) (w .group) (end-accepted (w .state) (w .group) e))
+lays (anEnd warn) w = guarded (λ (d : Done). LaidBy (anEnd warn) w (d .answer) (d .group)) _ w _ tt (λ e. end-lays warn (w .state) (w .group) (end-accepted (w .state) (w .group) e))

@@ -1,4 +1,5 @@
 -- The proofs; Theorems has what is cited.
+pub mod Paid
 pub mod Fills
 pub mod Lays
 pub mod Takes

@@ -5,9 +5,8 @@ use native.Mathlib.Omega.{arith}
 use mathlib.Core.List.{List}
 use mathlib.Core.Bool.{Bool, true, false, cond, not, true≢false}
 use mathlib.Core.Path.{_≡_, refl, sym, ap, _∙_, subst}
-use lib.Dec.{eqb}
 use lib.ListN.{length, take, drop, length-drop}
-use borrow.Author.Tests.{eqb-true, eq-eqb, le-leb}
+use borrow.Author.Tests.{eq-eqb, le-leb}
 use Rattle.group.specs.declared.Kind.the-variants as kind
 use Rattle.group.specs.declared.Phase.{Phase}
 use Rattle.group.specs.declared.Phase.the-variants.{Free, Inside, Owed}
@@ -21,7 +20,7 @@ use Rattle.laying.specs.Laying.{Desk, desk, layEntry, layData, layPart, moved, 
 use Rattle.laying.specs.Start.{freshState}
 use Rattle.laying.proofs.Starts.{begun-at}
 use Rattle.answer.specs.Answer.{refusalTold}
-use Rattle.writer.specs.Calls.{Call, Done, done, call, told, stateOf, refusalOf, finished, closed, orRefused, recordAccepted, recordCall, separatorCall, endCall}
+use Rattle.writer.specs.Calls.{Call, Done, call, told, stateOf, refusalOf, finished, closed, recordAccepted, recordCall, separatorCall, endCall}
 use Rattle.writer.specs.Calls.Call.{aRecord, aSeparator, anEnd}
 use Rattle.sound.proofs.SoundLaws.{Sound, sound}
 use Rattle.sound.proofs.Accepted.{Ended, separator-accepted, end-accepted}
@@ -30,6 +29,7 @@ use Rattle.writer.proofs.Theorems.{sound-start, sound-after, length-stays}
 use Rattle.layout.specs.Layout.{Image}
 use Rattle.layout.specs.Writing.{Account, inHand, afterRecord, noted, AsAsked, Wrote}
 use Rattle.layout.proofs.Accounts.{AsGiven, as-given}
+use Rattle.twice.proofs.Paid.{paid-size, paid-free, guarded}
 use Rattle.twice.specs.Taking.{Proper}
 
 no : {A : Type 0} → Free ≡ Inside → A
@@ -42,7 +42,7 @@ no-owed e = let z : _≡_ {A = ℕ} 0 1 = cc in absurd (omega arith)
 data Next (size : ℕ) (note : WriteAnswer → Account) : WriteAnswer → Type 0 where
   to-finished : {s : Writer} → s .size ≡ size → (s .phase ≡ Inside → ⊥) → Next size note (Finished s)
   to-closed : {s : Writer} {number entries taken : ℕ} → s .size ≡ size → (s .phase ≡ Inside → s .rest ≡ length (note (Closed s number entries taken) .asked)) → Next size note (Closed s number entries taken)
-  to-refused : {s : Writer} {number : ℕ} → Next size note (Refused s number)
+  to-refused : {s : Writer} {refusal : ℕ} → Next size note (Refused s refusal)
 
 of-finished : {size : ℕ} {note : WriteAnswer → Account} {s : Writer} → Next size note (Finished s) → (s .size ≡ size) × (s .phase ≡ Inside → ⊥)
 of-finished (to-finished e h) = (e, h)
@@ -74,19 +74,6 @@ inside-next a bytes v e q (RecordedInside.part n f less) =
 inside-next a bytes v e q (RecordedInside.total h) = finished-next (moved Free 0 0 (layEntry kind.Total (v .state .sum + length bytes) (layPart kind.Last bytes v))) e no
 inside-next a bytes v e q (RecordedInside.owed h k) = closed-next (length bytes) (moved Owed (v .state .sum + length bytes) 0 (layPart kind.Last bytes v)) e no-owed
 
--- An owed total, once laid, leaves the writer free.
-paid-size : (s : Writer) (g : List ℕ) (b : Bool) (p : Phase) → payOwed p (desk (warnState b s) g) .state .size ≡ s .size
-unfolding payOwed moved layEntry warnState
-paid-size s g b Free = refl
-paid-size s g b Inside = refl
-paid-size s g b Owed = refl
-
-paid-free : (s : Writer) (g : List ℕ) (b : Bool) (p : Phase) → s .phase ≡ p → isInside p ≡ false → payOwed p (desk (warnState b s) g) .state .phase ≡ Free
-unfolding payOwed moved warnState
-paid-free s g b Free e n = e
-paid-free s g b Inside e n = let z : _≡_ {A = ℕ} 0 1 = cc in absurd (omega arith)
-paid-free s g b Owed e n = refl
-
 record-next : (bytes : List ℕ) (warn : Bool) (w : Desk) (a : Account) → AsAsked (aRecord bytes warn) (w .state .phase) a →
     Next (w .state .size) (λ o. noted (aRecord bytes warn) (w .state .phase) o a) (recordAccepted (w .state .phase) bytes (ready warn w) .answer)
 unfolding recordAccepted ready noted inHand
@@ -103,23 +90,15 @@ unfolding layEntry
 separator-next value v e p (SeparatorLaid.laid h) = finished-next (layEntry kind.Separator value v) e (λ i. no (sym p ∙ i))
 separator-next value v e p (SeparatorLaid.not-laid h) = closed-next 0 v e (λ i. no (sym p ∙ i))
 
-or-next : {size : ℕ} {note : WriteAnswer → Account} (n : ℕ) (w : Desk) (d : Done) → (n ≡ 0 → Next size note (d .answer)) → Next size note (orRefused n w d .answer)
-unfolding orRefused
-or-next {size} {note} n w d h = by (eqb n 0) refl
-  where
-    by : (b : Bool) → eqb n 0 ≡ b → Next size note (cond b d (done (Refused (w .state) n) (w .group)) .answer)
-    by true e = h (eqb-true n 0 e)
-    by false e = to-refused
-
 not-inside : (p : Phase) → isInside p ≡ false → p ≡ Inside → ⊥
 not-inside p n e = true≢false (sym (ap isInside e) ∙ n)
 
 next : (c : Call) (w : Desk) (a : Account) → AsAsked c (w .state .phase) a → Next (w .state .size) (λ o. noted c (w .state .phase) o a) (call c w .answer)
 unfolding call recordCall separatorCall endCall ready
-next (aRecord bytes warn) w a q = or-next _ w _ (λ e. record-next bytes warn w a q)
+next (aRecord bytes warn) w a q = guarded (λ (d : Done). Next (w .state .size) (λ o. noted (aRecord bytes warn) (w .state .phase) o a) (d .answer)) _ w _ to-refused (λ e. record-next bytes warn w a q)
 next (aSeparator value warn) w a q =
-    or-next _ w _ (λ e. separator-next value _ (paid-size (w .state) (w .group) warn (w .state .phase)) (paid-free (w .state) (w .group) warn (w .state .phase) refl (separator-accepted (w .state) (w .group) value e .shut)) (separator-laid value _))
-next (anEnd warn) w a q = or-next _ w _ (λ e. by (end-accepted (w .state) (w .group) e) (end-laid warn w))
+    guarded (λ (d : Done). Next (w .state .size) (λ o. noted (aSeparator value warn) (w .state .phase) o a) (d .answer)) _ w _ to-refused (λ e. separator-next value _ (paid-size (w .state) (w .group) warn (w .state .phase)) (paid-free (w .state) (w .group) warn (w .state .phase) refl (separator-accepted (w .state) (w .group) value e .shut)) (separator-laid value _))
+next (anEnd warn) w a q = guarded (λ (d : Done). Next (w .state .size) (λ o. noted (anEnd warn) (w .state .phase) o a) (d .answer)) _ w _ to-refused (λ e. by (end-accepted (w .state) (w .group) e) (end-laid warn w))
   where
     by : {d : Done} → Ended (w .state) (w .group) → EndLaid warn w d → Next (w .state .size) (λ o. noted (anEnd warn) (w .state .phase) o a) (d .answer)
     by o (EndLaid.ends-nothing e) = finished-next w refl (not-inside (w .state .phase) (o .shut))
