@@ -37,7 +37,7 @@ link-where n false b f = holds f
 -- The chain of a start.
 start-chain : (size first : ℕ) → FirstBroken (startRules size first) (startRefusal size first)
 unfolding startRefusal
-start-chain size first = link 2 _ (link 3 _ all-hold)
+start-chain size first = link _ _ (link _ _ all-hold)
 
 pub reader-start-order : (size first : ℕ) → FirstBroken (startRules size first) (refusalTold (reading.startTold (readerStartCall size first)))
 unfolding readerStartCall
@@ -60,7 +60,7 @@ writer-start-order size first = by (startRefusal size first) (eqb (startRefusal 
 -- The chain of a read before its scan.
 read-chain : (s : Reader) (len number n room : ℕ) → FirstBroken (readRules s len number n room) (readRefusal s len number n room)
 unfolding readRefusal
-read-chain s len number n room = link 1 _ (link 4 _ (link 5 _ (link 6 _ (link 7 _ all-hold))))
+read-chain s len number n room = link _ _ (link _ _ (link _ _ (link _ _ (link _ _ all-hold))))
 
 pub read-order : (s : Reader) (group : List ℕ) (number n room : ℕ) → BeforeScan s group number n room
 read-order s group number n room =
@@ -73,9 +73,9 @@ read-order s group number n room =
 -- The chains of the writer's calls.
 call-chain : (c : Call) (w : Desk) → FirstBroken (callRules c w) (refusalOf c w)
 unfolding refusalOf recordRefusal separatorRefusal endRefusal
-call-chain (aRecord bytes warn) w = link 1 _ (link 4 _ (link 14 _ (link 15 _ (link-where 16 (isInside (w .state .phase)) (eqb (length bytes) (w .state .rest)) all-hold))))
-call-chain (aSeparator value warn) w = link 1 _ (link 4 _ (link 14 _ (link 17 _ (link 18 _ all-hold))))
-call-chain (anEnd warn) w = link 1 _ (link 4 _ (link 17 _ (link-where 14 (isOwed (w .state .phase)) (leb (w .state .next) 65535) all-hold)))
+call-chain (aRecord bytes warn) w = link _ _ (link _ _ (link _ _ (link _ _ (link-where _ (isInside (w .state .phase)) (eqb (length bytes) (w .state .rest)) all-hold))))
+call-chain (aSeparator value warn) w = link _ _ (link _ _ (link _ _ (link _ _ (link _ _ all-hold))))
+call-chain (anEnd warn) w = link _ _ (link _ _ (link _ _ (link-where _ (isOwed (w .state .phase)) (leb (w .state .next) 65535) all-hold)))
 
 pub call-order : (c : Call) (w : Desk) → FirstBroken (callRules c w) (refusalTold (told (call c w .answer)))
 call-order c w = subst (FirstBroken (callRules c w)) (sym (refusal-told c w)) (call-chain c w)

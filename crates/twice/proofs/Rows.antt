@@ -3,9 +3,9 @@
 use Prim.Native.Nat.{ℕ, zero, suc, _+_, _*_, _-_, _<_}
 use native.Mathlib.Omega.{arith}
 use mathlib.Core.List.{List, [], _∷_, _++_}
-use mathlib.Core.Bool.{Bool, true, false, cond, _&&_}
+use mathlib.Core.Bool.{Bool, true, false, cond}
 use mathlib.Core.Path.{_≡_, refl, sym, ap, _∙_}
-use lib.Dec.{eqb, leb}
+use lib.Dec.{eqb}
 use lib.ListN.{length, take, drop}
 use Rattle.numbers.specs.Store.{put}
 use Rattle.numbers.proofs.Stores.{put-split, drop-put}
@@ -23,7 +23,7 @@ use Rattle.reader.specs.declared.ReadAnswer.the-variants as answer
 use Rattle.reader.specs.Rows.{rowsFrom, rowKind}
 use Rattle.reader.specs.Answer.{groupRows, asNumbers, Reads}
 use Rattle.reader.proofs.Accepted.{accepted}
-use Rattle.twice.specs.RowsAre.{kindAmong, kindIs, dataIs, entryOf, dataTo, RowsAre}
+use Rattle.twice.specs.RowsAre.{kindAmong, kindIs, dataOf, dataIs, entryOf, dataTo, RowsAre}
 
 -- The rows of flags that some kinds have.
 abbrev rowsOf : List Kind → List (ℕ × ℕ)
@@ -45,7 +45,7 @@ unfolding meaningOf kindIs
 kind-is e = kind-among kinds (e .flag)
 
 -- By its kind an entry moves the data on, or not.
-moved-by : (m : Meaning) (reached count : ℕ) → reachedBy m reached count ≡ reached + cond (leb 3 (rowKind m) && leb (rowKind m) 6) count 0
+moved-by : (m : Meaning) (reached count : ℕ) → reachedBy m reached count ≡ reached + dataOf (rowKind m) count
 moved-by Unknown reached count = omega arith
 moved-by (Known Total b) reached count = omega arith
 moved-by (Known Separator b) reached count = omega arith
@@ -56,7 +56,7 @@ moved-by (Known Entire b) reached count = refl
 moved-by (Known Skip b) reached count = omega arith
 
 data-is : (e : Entry) (reached : ℕ) → reachedBy (meaningOf (e .flag)) reached (e .count) ≡ reached + dataIs e
-data-is e reached = moved-by (meaningOf (e .flag)) reached (e .count) ∙ ap (λ (k : ℕ). reached + cond (leb 3 k && leb k 6) (e .count) 0) (kind-is e)
+data-is e reached = moved-by (meaningOf (e .flag)) reached (e .count) ∙ ap (λ (k : ℕ). reached + dataOf k (e .count)) (kind-is e)
 
 -- The data of the first k entries below `top`, from the first on, and from the last.
 unfoldable before : List ℕ → ℕ → ℕ → ℕ

@@ -25,9 +25,13 @@ kindAmong (row ∷ rows) flag = cond (eqb flag (row .0)) (row .1) (kindAmong row
 unfoldable pub kindIs : Entry → ℕ
 kindIs e = kindAmong flagRows (e .flag)
 
--- The bytes of user data that an entry stands for: its count, of kinds 3 to 6.
+-- The bytes of user data that an entry of this kind and count stands for: its count, of kinds 3 to 6.
+abbrev pub dataOf : (kind count : ℕ) → ℕ
+dataOf kind count = cond (leb 3 kind && leb kind 6) count 0
+
+-- .. that an entry stands for.
 abbrev pub dataIs : Entry → ℕ
-dataIs e = cond (leb 3 (kindIs e) && leb (kindIs e) 6) (e .count) 0
+dataIs e = dataOf (kindIs e) (e .count)
 
 -- "Entry k (k from 1) is the four bytes from L − 32 − 4k."
 abbrev pub entryOf : List ℕ → (size k : ℕ) → Entry
