@@ -1,0 +1,8 @@
+-- The proofs; Theorems has what is cited.
+pub mod Paid
+pub mod Fills
+pub mod Lays
+pub mod Takes
+pub mod Rows
+pub mod InOrder
+pub mod Theorems
