@@ -83,3 +83,7 @@ ending Owed = ascii "end owed"
 
 unfoldable pub endLine : Phase → ℕ → List ℕ
 endLine phase sum = ending phase ++ (field sum ++ newline)
+
+-- "A section out of range, short input or extra bytes print `bad run file`"
+unfoldable pub badLine : List ℕ
+badLine = ascii "bad run file" ++ newline

@@ -6,7 +6,7 @@ ghost use mathlib.Core.List.{[], _∷_};
 ghost use lib.ListN.{length};
 ghost use Rattle.lines.specs.Added.{Added};
 ghost use Rattle.lines.specs.Names.{namesBelow};
-ghost use Rattle.lines.specs.Text.{decimal, kindName, ending, field, labelled, groupLine, rowLine, rowLines, groupLines, refusalLine, endLine};
+ghost use Rattle.lines.specs.Text.{decimal, kindName, ending, field, labelled, groupLine, rowLine, rowLines, groupLines, refusalLine, endLine, badLine};
 use group::Phase;
 use numbers::bytes::put_bytes;
 
@@ -158,4 +158,12 @@ pub fn add_end(text: &mut [u8], at: usize, phase: Phase, sum: u32) -> usize
     let ended = add_ending(text, at, phase);
     let summed = add_field(text, ended, sum);
     add_byte(text, summed, b'\n')
+}
+
+// The line of a run that is not what document 01 asks for.
+pub fn add_bad(text: &mut [u8], at: usize) -> usize
+    requires { ⌜ at + 13 ≤ length (now text) ⌝ }
+    ensures { λ r. ⌜ Added 13 (now (text .entry)) at badLine (now (text .exit)) r ⌝ }
+{
+    add(text, at, b"bad run file\n")
 }

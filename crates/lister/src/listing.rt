@@ -1,63 +1,41 @@
-// The groups of a run, one by one: each image is read, judged and printed, until one stops the run.
+// The steps of a run, one by one: what each needs is read, what `telling` tells of it is written, until one stops the run.
 // After a refusal no more is read. After the last image one byte is asked for, which must not be there.
 use crate::input;
 use crate::output;
-use reader::ReadAnswer;
+use crate::output::TEXT_LENGTH;
 use reader::Reader;
-use reader::ReaderStart;
+use telling::Listed;
 ghost use Prim.Native.Nat.{_+_, _*_, _≤_};
 ghost use lib.ListN.{length};
 ghost use Rattle.sections.specs.Sections.{largestSize, InRange};
 
-// Three numbers for each entry of a group of 4,096 bytes that has the most, 1,016.
-const ROW_NUMBERS: usize = 3048;
-
-// How the listing of a group leaves the run: it goes on, or all is said.
-enum Listed {
-    On(Reader),
-    Stopped,
+// The sections are not what document 01 asks for.
+pub(crate) fn list_bad() {
+    let mut text = [0u8; TEXT_LENGTH];
+    let said = telling::tell_bad(&mut text);
+    output::say(&text, said.length);
 }
 
-// Judges a group and prints its lines, or its refusal.
-fn tell_group(reader: Reader, image: &[u8], number: u32, entries: u32) -> Listed {
-    let mut rows = [0u32; ROW_NUMBERS];
-    match reader.read(image, number, entries, &mut rows) {
-        ReadAnswer::Accepted(next) => {
-            output::say_group(number, entries, &rows);
-            Listed::On(next)
-        }
-        ReadAnswer::Refused {
-            state: _,
-            refusal,
-            place,
-        } => {
-            output::say_refusal(refusal, place);
-            Listed::Stopped
-        }
-    }
-}
-
-// Reads one image, and goes on to its group where the input has all of it.
-fn list_group(reader: Reader, size: usize, number: u32, entries: u32) -> Listed
-    requires { ⌜ size ≤ largestSize ⌝ }
+// One group: its image is read, and what is told of it is written.
+fn list_group(reader: Reader, size: usize, bytes: &[u8], i: usize) -> Listed
+    requires { ⌜ (size ≤ largestSize) × (12 + 4 * (i + 1) ≤ length (now bytes)) ⌝ }
 {
     let mut image = io::buffer();
-    if !input::read_whole(&mut image[..size]) {
-        output::say_bad();
-        return Listed::Stopped;
-    }
-    tell_group(reader, &image[..size], number, entries)
+    let whole = input::read_whole(&mut image[..size]);
+    let mut text = [0u8; TEXT_LENGTH];
+    let said = telling::tell_group(&mut text, reader, whole, &image[..size], bytes, i);
+    output::say(&text, said.length);
+    let then = said.then;
+    then
 }
 
 // After the last group: extra bytes, or the end.
 fn list_end(reader: Reader) {
-    let mut extra = [0u8; 1];
-    if input::read_whole(&mut extra) {
-        output::say_bad();
-        return;
-    }
-    let phase = reader.phase;
-    output::say_end(phase, reader.sum);
+    let mut more = [0u8; 1];
+    let extra = input::read_whole(&mut more);
+    let mut text = [0u8; TEXT_LENGTH];
+    let said = telling::tell_end(&mut text, reader, extra);
+    output::say(&text, said.length);
 }
 
 // The groups one by one, until one stops the run.
@@ -67,8 +45,7 @@ fn list_groups(reader: Reader, size: usize, groups: usize, bytes: &[u8])
     let mut state = reader;
     let mut i = 0;
     while i < groups {
-        let pair = sections::pair_at(bytes, i);
-        match list_group(state, size, pair.number, pair.entries) {
+        match list_group(state, size, bytes, i) {
             Listed::On(next) => {
                 state = next;
             }
@@ -81,13 +58,16 @@ fn list_groups(reader: Reader, size: usize, groups: usize, bytes: &[u8])
     list_end(state);
 }
 
-// The run after its sections: the first pair's number starts it.
+// The run after its sections.
 pub(crate) fn list_run(size: u32, groups: u32, bytes: &[u8])
     requires { ⌜ InRange size groups × (12 + 4 * groups ≤ length (now bytes)) ⌝ }
 {
-    let first = sections::pair_at(bytes, 0);
-    match Reader::start(size, first.number) {
-        ReaderStart::Started(reader) => list_groups(reader, size as usize, groups as usize, bytes),
-        ReaderStart::Refused(number) => output::say_refusal(number, 0),
+    let mut text = [0u8; TEXT_LENGTH];
+    let said = telling::tell_start(&mut text, size, bytes);
+    output::say(&text, said.length);
+    let then = said.then;
+    match then {
+        Listed::On(reader) => list_groups(reader, size as usize, groups as usize, bytes),
+        Listed::Stopped => {}
     }
 }

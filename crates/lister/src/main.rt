@@ -1,5 +1,5 @@
 // The bench program: reads a run from standard input and prints what its groups hold. Document 01, "Bench program". What the
-// sections say and how each line reads are proved in `sections` and `lines`; here they are read, judged and written.
+// sections say, and what is printed at each step, are proved in `sections` and `telling`; here the input is read and the text written.
 mod input;
 mod listing;
 mod output;
@@ -13,7 +13,7 @@ fn main() {
     let mut bytes = [0u8; SECTIONS_LENGTH];
     match input::read_sections(&mut bytes) {
         Sections::Whole { size, groups } => listing::list_run(size, groups, &bytes),
-        Sections::Next(_) => output::say_bad(),
-        Sections::Bad => output::say_bad(),
+        Sections::Next(_) => listing::list_bad(),
+        Sections::Bad => listing::list_bad(),
     }
 }

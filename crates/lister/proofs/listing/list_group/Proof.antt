@@ -10,9 +10,11 @@ use Rattle.lister.proofs.listing.list_group.Statement.{statement}
 use Rattle.lister.proofs.listing.list_group.Tie as tie
 
 -- The buffer after the image was read into it is no shorter than the image.
-room : (c : tie.Else1) → c .before .before .before .before .before .args .size ≤ length (c .before .before .read-whole .last .0 ++ drop (c .before .before .before .before .before .args .size) (c .before .before .before .before .buffer .result))
+room : (c : tie.After-text)
+    → c .before .before .before .before .before .before .args .size
+    ≤ length (c .before .before .read-whole .last .0 ++ drop (c .before .before .before .before .before .before .args .size) (c .before .before .before .before .buffer .result))
 room c =
-    let whole = length-take-le (c .before .before .before .before .before .args .size) (c .before .before .before .before .buffer .result) (omega (arith, c .before .before .before .before .buffer .ensures, c .before .before .before .before .before .pre)) in
+    let whole = length-take-le (c .before .before .before .before .before .before .args .size) (c .before .before .before .before .buffer .result) (omega (arith, c .before .before .before .before .buffer .ensures, c .before .before .before .before .before .before .pre .0)) in
     simp length-append (omega (arith, whole, c .before .before .read-whole .kept .0))
 
 pub list-group-spec : {M : Type 1} → statement M
@@ -21,11 +23,12 @@ list-group-spec =
     (tie.spec
     (λ c κs. search needs)
     (λ c. search needs)
-    (λ c. sym (length-take-le _ _ (omega (arith, c .before .buffer .ensures, c .before .before .pre))))
-    (λ c κs. search needs)
+    (λ c. sym (length-take-le _ _ (omega (arith, c .before .buffer .ensures, c .before .before .before .pre .0))))
     (λ c κs. search needs)
     (λ c. search needs)
     room
     (λ c. sym (length-take-le _ _ (room (c .before))))
+    (λ c κs. search needs)
+    (λ c. search needs)
     (λ c κs. search needs)
     (λ c. search needs))

@@ -1,4 +1,4 @@
--- `list_groups` asks for pairs that are there, and ends: one group fewer is left at each turn. Assumes nothing.
+-- `list_groups` asks for groups that have a pair, and ends: one group fewer is left at each turn. Assumes nothing.
 use borrow.Author.Needs.{needs}
 use Prim.Native.Nat.{_-_, _≤_}
 use native.Mathlib.Omega.{arith}
@@ -18,8 +18,7 @@ list-groups-spec =
     Inv-loop
     μ-loop
     (λ c. omega arith)
-    (λ c κs. omega arith)
-    (λ c κs. omega arith)
+    (λ c κs. (omega arith, omega arith))
     (λ c. search needs)
     (λ c. search needs)
     (λ c. search needs)
