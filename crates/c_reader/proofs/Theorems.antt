@@ -83,7 +83,7 @@ module _ (state group : List ℕ) (number n : ℕ) (rows answer : List ℕ) wher
         l .slices 1 ∙ ap (λ (x : Told). ifAccepted x (put rows 0 (inBytes (groupRows (readerOf state) group n))) rows) m,
       )
 
-  -- "A refusal answers the number, the place (k for 8 to 13, else 0) and the state as given. C's answer slice apart, nothing lent
+  -- "A refusal answers the number, the place (k for 8 to 13, else 0) and the state as given." "C's answer slice apart, nothing lent
   -- changes": of every read that returns another number than 0.
   pub read-refused : (ddsRead state group number n rows answer .refusal ≡ 0 → ⊥) → ReadRefused state n rows answer (ddsRead state group number n rows answer)
   unfolding ddsRead called

@@ -28,7 +28,7 @@ pub record ReadAccepted (state group : List ℕ) (number n : ℕ) (rows answer :
   pub left : Reader
   pub accepts : readCall (readerOf state) group number n (length rows / 4) ≡ Accepted left
 
--- "A state or answer slice of another length is refusal 1, with nothing written." "Otherwise a refusal writes just the answer slice":
+-- "A state or answer slice of another length is refusal 1, .. with nothing written." "Otherwise a refusal writes just the answer slice":
 -- its number and its place, and no more. (A free / inside / owed number that has no meaning is 1, with place 0, as well.)
 pub data ReadRefused (state : List ℕ) (n : ℕ) (rows answer : List ℕ) : Left → Type 0 where
   by-a-length : lengthsKept (length state) readerLength (length answer) ≡ false → ReadRefused state n rows answer (left 1 (state ∷ rows ∷ []) answer)
