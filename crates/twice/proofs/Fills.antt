@@ -29,8 +29,9 @@ use Rattle.writer.proofs.CallLaws.{RecordedFree, recorded-free, RecordedInside,
 use Rattle.twice.proofs.Paid.{paid-free, Bare, bare, guarded}
 use Rattle.twice.specs.Filled.{warnOf, GapAfter, Filled, FilledBy}
 
--- A desk in the midst of a call: its size and b4, its buffer's length, room for the skip.
-record Here (c : Call) (s : Writer) (v : Desk) : Type 0 where
+-- A desk in the midst of a call: its size and b4, its data, its buffer's length, room for the skip.
+record Here (c : Call) (s : Writer) (taken : ℕ) (v : Desk) : Type 0 where
+  holds : v .state .filled ≡ s .filled + taken
   sized : v .state .size ≡ s .size
   b4 : v .state .warned ≡ (warnOf c || s .warned)
   long : length (v .group) ≡ s .size
@@ -53,15 +54,15 @@ zeros-to h f at x low fit = by (replicate (at - f) 0) (length-replicate (at - f)
         ∙ ap (λ (l : List ℕ). take f h ++ l) (append-assoc z x (drop (at + length x) h))
 
 -- The same by numbers alone.
-filled-by : (c : Call) (size f entries : ℕ) (b4 : Bool) (after : Phase) (h : List ℕ) → length h ≡ size → span f (entries + 1) ≤ size → 1 ≤ entries →
+filled-by : (c : Call) (size f holds entries : ℕ) (b4 : Bool) (after : Phase) (h : List ℕ) → f ≡ holds → length h ≡ size → span f (entries + 1) ≤ size → 1 ≤ entries →
     GapAfter after c (size - span f (entries + 1)) →
-    Filled c size b4 after (entries + 1)
+    Filled c size holds b4 after (entries + 1)
     (put (put h (entryOffset size (entries + 1)) (entryBytes (entry (flagOf kind.Skip (warnOf c || b4)) (size - f)))) f (replicate (entryOffset size (entries + 1) - f) 0))
-filled-by c size f entries b4 after h long room some left =
+filled-by c size f holds entries b4 after h data-bytes long room some left =
     by (entryBytes (entry (flagOf kind.Skip (warnOf c || b4)) (size - f))) refl
   where
     by : (x : List ℕ) → x ≡ entryBytes (entry (flagOf kind.Skip (warnOf c || b4)) (size - f)) →
-        Filled c size b4 after (entries + 1) (put (put h (entryOffset size (entries + 1)) x) f (replicate (entryOffset size (entries + 1) - f) 0))
+        Filled c size holds b4 after (entries + 1) (put (put h (entryOffset size (entries + 1)) x) f (replicate (entryOffset size (entries + 1) - f) 0))
     by x e =
         let four : length x ≡ 4 = ap length e ∙ length-entry (entry (flagOf kind.Skip (warnOf c || b4)) (size - f)) in
         let front : length (take f h) ≡ f = length-take-le f h (omega arith) in
@@ -75,6 +76,7 @@ filled-by c size f entries b4 after h long room some left =
           stands =
               zeros-to h f (entryOffset size (entries + 1)) x (omega arith) (omega arith)
               ∙ ap (λ (y : List ℕ). take f h ++ (replicate (entryOffset size (entries + 1) - f) 0 ++ (y ++ drop (entryOffset size (entries + 1) + length x) h))) same;
+          data-bytes = front ∙ data-bytes;
           long = omega arith;
           table = omega arith;
           some = omega arith;
@@ -82,31 +84,31 @@ filled-by c size f entries b4 after h long room some left =
         }
 
 -- What a close of it leaves.
-shut-filled : {c : Call} {s : Writer} (v : Desk) → Here c s v → 1 ≤ v .state .entries →
+shut-filled : {c : Call} {s : Writer} {taken : ℕ} (v : Desk) → Here c s taken v → 1 ≤ v .state .entries →
     GapAfter (v .state .phase) c (s .size - span (v .state .filled) (v .state .entries + 1)) →
-    Filled c (s .size) (s .warned) (v .state .phase) (v .state .entries + 1) (shut v .group)
+    Filled c (s .size) (s .filled + taken) (s .warned) (v .state .phase) (v .state .entries + 1) (shut v .group)
 unfolding shut zeroGap laySkip layEntry
-shut-filled {c} {s} v h some left =
-    rw (h .sized, h .b4) (filled-by c (s .size) (v .state .filled) (v .state .entries) (s .warned) (v .state .phase) (v .group) (h .long) (h .fits) some left)
+shut-filled {c} {s} {taken} v h some left =
+    rw (h .sized, h .b4) (filled-by c (s .size) (v .state .filled) (s .filled + taken) (v .state .entries) (s .warned) (v .state .phase) (v .group) (h .holds) (h .long) (h .fits) some left)
 
-closed-filled : {c : Call} {s : Writer} (g : List ℕ) (taken : ℕ) (v : Desk) → Here c s v → 1 ≤ v .state .entries →
+closed-filled : {c : Call} {s : Writer} (g : List ℕ) (taken : ℕ) (v : Desk) → Here c s taken v → 1 ≤ v .state .entries →
     GapAfter (v .state .phase) c (s .size - span (v .state .filled) (v .state .entries + 1)) → FilledBy c (desk s g) (closed taken v .answer) (closed taken v .group)
 unfolding closed shut zeroGap laySkip layEntry
 closed-filled g taken v h some left = shut-filled v h some left
 
 -- The steps before it.
-here-ready : (c : Call) (s : Writer) (g : List ℕ) (p : Phase) → s .phase ≡ p → Accepted s g → Here c s (payOwed p (desk (warnState (warnOf c) s) g))
+here-ready : (c : Call) (s : Writer) (g : List ℕ) (p : Phase) → s .phase ≡ p → Accepted s g → Here c s 0 (payOwed p (desk (warnState (warnOf c) s) g))
 unfolding payOwed moved layEntry warnState
-here-ready c s g Free e a = record { sized = refl; b4 = refl; long = a .long; fits = fits s (a .sound) }
-here-ready c s g Inside e a = record { sized = refl; b4 = refl; long = a .long; fits = fits s (a .sound) }
+here-ready c s g Free e a = record { holds = omega arith; sized = refl; b4 = refl; long = a .long; fits = fits s (a .sound) }
+here-ready c s g Inside e a = record { holds = omega arith; sized = refl; b4 = refl; long = a .long; fits = fits s (a .sound) }
 here-ready c s g Owed e a =
     let none = a .sound .empty (ap isFree e) in
     let least = a .sound .run .least in
-    record { sized = refl; b4 = refl; long = length-put _ _ _ ∙ a .long; fits = omega (arith, none .0, none .1) }
+    record { holds = omega arith; sized = refl; b4 = refl; long = length-put _ _ _ ∙ a .long; fits = omega (arith, none .0, none .1) }
 
-here-part : {c : Call} {s : Writer} (k : Kind) (bytes : List ℕ) (p : Phase) (sum rest : ℕ) (v : Desk) → span (v .state .filled + length bytes) (v .state .entries + 2) ≤ s .size → Here c s v → Here c s (moved p sum rest (layPart k bytes v))
+here-part : {c : Call} {s : Writer} {taken : ℕ} (k : Kind) (bytes : List ℕ) (p : Phase) (sum rest : ℕ) (v : Desk) → span (v .state .filled + length bytes) (v .state .entries + 2) ≤ s .size → length bytes ≡ taken → Here c s 0 v → Here c s taken (moved p sum rest (layPart k bytes v))
 unfolding moved layPart layData layEntry
-here-part k bytes p sum rest v room h = record { sized = h .sized; b4 = h .b4; long = length-put _ _ _ ∙ length-put _ _ _ ∙ h .long; fits = omega arith }
+here-part k bytes p sum rest v room all h = record { holds = omega (arith, h .holds); sized = h .sized; b4 = h .b4; long = length-put _ _ _ ∙ length-put _ _ _ ∙ h .long; fits = omega arith }
 
 -- The numbers where nothing is laid yet: no data without an entry.
 none-held : (d n : ℕ) → (0 < d → 0 < n) → n ≡ 0 → d ≡ 0
@@ -124,19 +126,19 @@ entry-stands s g b Free e t h = by (s .entries) refl
 entry-stands s g b Inside e t h = absurd (let none = t .empty (ap isFree e) in omega (arith, none .0, none .1, t .run .least))
 entry-stands s g b Owed e t h = omega arith
 
-free-filled : (bytes : List ℕ) (warn : Bool) (s : Writer) (g : List ℕ) (v : Desk) {d : Done} → Here (aRecord bytes warn) s v → v .state .phase ≡ Free →
+free-filled : (bytes : List ℕ) (warn : Bool) (s : Writer) (g : List ℕ) (v : Desk) {d : Done} → Here (aRecord bytes warn) s 0 v → v .state .phase ≡ Free →
     (s .size ≤ span (v .state .filled) (v .state .entries + 2) → 1 ≤ v .state .entries) → RecordedFree bytes v d → FilledBy (aRecord bytes warn) (desk s g) (d .answer) (d .group)
 unfolding finished moved layPart layData layEntry
 free-filled bytes warn s g v h p some (RecordedFree.entire k) = tt
 free-filled bytes warn s g v h p some (RecordedFree.start r low less k) =
     let l : length (take r bytes) ≡ r = length-take-le r bytes (omega arith) in
     let sized = h .sized in
-    closed-filled g r (moved Inside r (length bytes - r) (layPart kind.Start (take r bytes) v)) (here-part kind.Start (take r bytes) Inside r (length bytes - r) v (omega arith) h) (omega arith) (omega arith)
+    closed-filled g r (moved Inside r (length bytes - r) (layPart kind.Start (take r bytes) v)) (here-part kind.Start (take r bytes) Inside r (length bytes - r) v (omega arith) l h) (omega arith) (omega arith)
 free-filled bytes warn s g v h p some (RecordedFree.nothing k) =
     let sized = h .sized in
     closed-filled g 0 v h (some (omega arith)) (subst (λ (q : Phase). GapAfter q (aRecord bytes warn) (s .size - span (v .state .filled) (v .state .entries + 1))) (sym p) (omega arith))
 
-inside-filled : (bytes : List ℕ) (warn : Bool) (s : Writer) (g : List ℕ) (v : Desk) {d : Done} → Here (aRecord bytes warn) s v → Bare (v .state) →
+inside-filled : (bytes : List ℕ) (warn : Bool) (s : Writer) (g : List ℕ) (v : Desk) {d : Done} → Here (aRecord bytes warn) s 0 v → Bare (v .state) →
     RecordedInside bytes v d → FilledBy (aRecord bytes warn) (desk s g) (d .answer) (d .group)
 unfolding finished moved layPart layData layEntry
 inside-filled bytes warn s g v h none (RecordedInside.part n e less) =
@@ -145,16 +147,16 @@ inside-filled bytes warn s g v h none (RecordedInside.part n e less) =
     let filled = none .filled in
     let entries = none .entries in
     let least = none .least in
-    closed-filled g n (moved Inside (v .state .sum + n) (length bytes - n) (layPart kind.Middle (take n bytes) v)) (here-part kind.Middle (take n bytes) Inside (v .state .sum + n) (length bytes - n) v (omega arith) h) (omega arith) (omega arith)
+    closed-filled g n (moved Inside (v .state .sum + n) (length bytes - n) (layPart kind.Middle (take n bytes) v)) (here-part kind.Middle (take n bytes) Inside (v .state .sum + n) (length bytes - n) v (omega arith) l h) (omega arith) (omega arith)
 inside-filled bytes warn s g v h none (RecordedInside.total k) = tt
 inside-filled bytes warn s g v h none (RecordedInside.owed k m) =
     let sized = h .sized in
     let filled = none .filled in
     let entries = none .entries in
     let least = none .least in
-    closed-filled g (length bytes) (moved Owed (v .state .sum + length bytes) 0 (layPart kind.Last bytes v)) (here-part kind.Last bytes Owed (v .state .sum + length bytes) 0 v (omega arith) h) (omega arith) (omega arith)
+    closed-filled g (length bytes) (moved Owed (v .state .sum + length bytes) 0 (layPart kind.Last bytes v)) (here-part kind.Last bytes Owed (v .state .sum + length bytes) 0 v (omega arith) refl h) (omega arith) (omega arith)
 
-separator-filled : (value : ℕ) (warn : Bool) (s : Writer) (g : List ℕ) (v : Desk) {d : Done} → Here (aSeparator value warn) s v → v .state .phase ≡ Free →
+separator-filled : (value : ℕ) (warn : Bool) (s : Writer) (g : List ℕ) (v : Desk) {d : Done} → Here (aSeparator value warn) s 0 v → v .state .phase ≡ Free →
     (s .size ≤ span (v .state .filled) (v .state .entries + 2) → 1 ≤ v .state .entries) → SeparatorLaid value v d → FilledBy (aSeparator value warn) (desk s g) (d .answer) (d .group)
 unfolding finished
 separator-filled value warn s g v h p some (SeparatorLaid.laid k) = tt

@@ -36,20 +36,21 @@ GapAfter Inside c gap = gap ≡ 0
 GapAfter Owed c gap = gap < 4
 GapAfter Free c gap = FreeGap c gap
 
--- A closed group: data; a gap of zeros; the skip, with b4 as it was or as this call sets it, its count L less the data; then the
--- entries before it and the last 32 bytes. No group is closed with its skip alone.
-pub record Filled (c : Call) (size : ℕ) (b4 : Bool) (after : Phase) (entries : ℕ) (group : List ℕ) : Type 0 where
+-- A closed group: so much data; a gap of zeros; the skip, with b4 as it was or as this call sets it, its count L less the data;
+-- then the entries before it and the last 32 bytes. No group is closed with its skip alone.
+pub record Filled (c : Call) (size holds : ℕ) (b4 : Bool) (after : Phase) (entries : ℕ) (group : List ℕ) : Type 0 where
   pub front : List ℕ
   pub gap : ℕ
   pub behind : List ℕ
   pub stands : group ≡ front ++ (replicate gap 0 ++ (entryBytes (entry (flagOf Skip (warnOf c || b4)) (size - length front)) ++ behind))
+  pub data-bytes : length front ≡ holds
   pub long : length front + gap + 4 + length behind ≡ size
   pub table : length behind + 4 ≡ 32 + 4 * entries
   pub some : 2 ≤ entries
   pub left : GapAfter after c gap
 
--- .. where a call closes; one that finishes or is refused closes nothing.
+-- .. where a call closes: the data is what stood and what the call took. One that finishes or is refused closes nothing.
 abbrev pub FilledBy : Call → Desk → WriteAnswer → List ℕ → Type 0
 FilledBy c w (Finished s) group = Unit {0}
-FilledBy c w (Closed s number entries taken) group = Filled c (w .state .size) (w .state .warned) (s .phase) entries group
+FilledBy c w (Closed s number entries taken) group = Filled c (w .state .size) (w .state .filled + taken) (w .state .warned) (s .phase) entries group
 FilledBy c w (Refused s refusal) group = Unit {0}
