@@ -4,3 +4,4 @@ pub mod Accepted
 pub mod Filling
 pub mod Sound
 pub mod Settled
+pub mod Blind
