@@ -9,6 +9,7 @@ pub mod Unscanned
 pub mod Sound
 pub mod Order
 pub mod Ending
+pub mod AddUp
 pub mod Buffer
 pub mod Held
 pub mod Accounts

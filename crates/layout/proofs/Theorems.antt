@@ -3,7 +3,7 @@
 use Prim.Native.Nat.{ℕ, suc, _+_, _<_}
 use native.Mathlib.Omega.{arith}
 use mathlib.Core.List.{List, [], _∷_, _++_, map}
-use mathlib.Core.Path.{_≡_, sym, _∙_, subst}
+use mathlib.Core.Path.{_≡_, refl, sym, _∙_, subst}
 use mathlib.Core.Logic.{_↔_}
 use lib.ListN.{length, getD}
 use Rattle.group.specs.declared.Phase.the-variants as phase
@@ -16,6 +16,7 @@ use Rattle.reader.proofs.Accepted.{begun-at}
 use Rattle.layout.specs.Items.{Item, Each}
 use Rattle.layout.specs.Layout.{Image, Lays}
 use Rattle.layout.specs.Accepting.{Accepts, Lent}
+use Rattle.layout.specs.Counts.{AddsUp}
 use Rattle.layout.specs.Reading.{OfBytes, itemsRead, begunRead}
 use Rattle.layout.specs.Stated.{EndsWith, AcceptedWith, AtEnd, OutOfOrder}
 use Rattle.layout.specs.Writing.{Account, Wrote, WasEnded}
@@ -27,6 +28,7 @@ use Rattle.layout.proofs.OnlyOne.{reading-is, one-reading, enough}
 use Rattle.layout.proofs.Sound.{lawful-from}
 use Rattle.layout.proofs.Order.{first-of, size-after, next-after, number-of, split, each-before, out-of-order}
 use Rattle.layout.proofs.Ending.{ends-with}
+use Rattle.layout.proofs.AddUp.{each-adds}
 use Rattle.layout.proofs.Returned as written
 use Rattle.layout.proofs.Ended as endings
 use Rattle.layout.proofs.TotalKept as totals
@@ -106,6 +108,10 @@ module _ (size first : ℕ) (s : Reader) (begins : readerStartCall size first �
         only = λ i c m. one-reading m l;
         ends = state-at-end (itemsRead beginning (p .before)) (begunRead beginning (p .before)) beginning (p .before) (p .left) l (p .begins);
       }
+
+  -- "Counts of kinds 3 to 7 add up to L": in every group of an accepted run.
+  pub add-up : (run : List Image) (rows : List (List ℕ)) (final : Reader) → Accepts s run rows final → Each (AddsUp size) run
+  add-up run rows final a = each-adds refl (from-fresh a)
 
   -- "Numbers then rise by one": in an accepted run the k-th group, k from 0, bears the number first + k.
   pub numbered : (run : List Image) (rows : List (List ℕ)) (final : Reader) → Accepts s run rows final → (k : ℕ) → k < length run →

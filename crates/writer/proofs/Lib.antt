@@ -6,5 +6,6 @@ pub mod Left
 pub mod Ends
 pub mod GetsOn
 pub mod Settled
+pub mod Blind
 pub mod Theorems
 pub mod Offering
