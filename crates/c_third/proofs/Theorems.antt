@@ -2,6 +2,7 @@
 -- Assumes nothing.
 use mathlib.Core.Path.{_≡_, refl, sym, ap, _∙_, subst}
 use mathlib.Core.Logic.{inl, inr}
+use mathlib.Core.Bool.{Bool, true, false}
 use mathlib.Core.List.{List, [], _∷_}
 use Prim.Native.Nat.{ℕ, _^_, _<_, _≤_}
 use native.Mathlib.Omega.{arith}
@@ -16,9 +17,9 @@ use Rattle.third.specs.declared.ThirdAnswer.{ThirdAnswer}
 use Rattle.third.specs.declared.ThirdAnswer.the-variants.{Accepted}
 use Rattle.third.specs.Answer.{firstCheckRow, makeCall, oneCall, twoCall, mendCall, checkCall, told, Does, Mends}
 use Rattle.third.specs.Written.{Lent, Written, MendTold, CheckTold, FirstHopeless}
-use Rattle.third.proofs.Theorems.{third-made, third-restored-one, third-restored-two, third-mended, third-mended-column, third-told, third-checked}
-use Rattle.slices.specs.Call.{Left, answerLength}
-use Rattle.slices.proofs.Calls.{let-through, Leaves, leaves}
+use Rattle.third.proofs.Theorems.{third-made, third-restored-one, third-restored-two, third-mended, third-mended-column, third-mends-one, third-told, third-checked}
+use Rattle.slices.specs.Call.{Left, answerLength, answerKept}
+use Rattle.slices.proofs.Calls.{stopped, let-through, Leaves, leaves}
 use Rattle.c_third.specs.Calls.{thirdCall, ddsThirdMake, ddsThirdCheck, ddsThirdRestoreOne, ddsThirdRestoreTwo, ddsThirdMend}
 use Rattle.c_third.specs.Seen.{rowsLeft, placeSeen, MendSeen, CheckSeen}
 
@@ -85,6 +86,18 @@ c-third-mended-column n old answer l o e zero = by (third-told n old (mendCall o
     by (inl a) = third-mended-column n old (rowsLeft o) l (subst (λ (x : ThirdAnswer). Mends n old x (rowsLeft o)) (a .0) (t .does))
     by (inr (c, (lc, (a, b)))) =
         let z : _≡_ {A = ℕ} 43 0 = sym (t .returns ∙ ap (λ (x : ThirdAnswer). refusalTold (told x)) a) ∙ zero in absurd (omega arith)
+
+-- "mend one wrong byte a column": of no column does mending write more than one byte, whatever it returns.
+pub c-third-mends-one : (n : ℕ) (old answer : List ℕ) (o : Left) → o ≡ ddsThirdMend n old answer → (c : ℕ) → c < n
+    → AtMostOne (column (rowsLeft o) n c) (column old n c)
+unfolding thirdCall
+c-third-mends-one n old answer o e c lc = by (answerKept answer) refl
+  where
+    by : (b : Bool) → answerKept answer ≡ b → AtMostOne (column (rowsLeft o) n c) (column old n c)
+    by true k = third-mends-one n old _ (rowsLeft o) (through (mendCall old n) mended n old answer o e (eqb-true (length answer) answerLength k) .does) c lc
+    by false k =
+        let stays : rowsLeft o ≡ old = ap (λ (p : Left). rowsLeft p) (e ∙ sym (stopped _ _ (old ∷ []) answer k)) in
+        (0, (omega arith, λ i li d. ap (λ (x : List ℕ). column x n c i) stays))
 
 -- The k-th number of an answer slice.
 seen : (o : Left) (ns : List ℕ) → o .answer ≡ inBytes ns → (k : ℕ) → k < length ns → getD ns k 0 < 256 ^ 4 → field (o .answer) k ≡ getD ns k 0
