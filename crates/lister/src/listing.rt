@@ -7,7 +7,8 @@ use reader::Reader;
 use telling::Listed;
 ghost use Prim.Native.Nat.{_+_, _*_, _≤_};
 ghost use lib.ListN.{length};
-ghost use Rattle.sections.specs.Sections.{largestSize, InRange};
+ghost use Rattle.sections.specs.Sections.{largestSize, pairAt, InRange};
+ghost use Rattle.telling.specs.Telling.{Follows};
 
 // The sections are not what document 01 asks for.
 pub(crate) fn list_bad() {
@@ -19,6 +20,7 @@ pub(crate) fn list_bad() {
 // One group: its image is read, and what is told of it is written.
 fn list_group(reader: Reader, size: usize, bytes: &[u8], i: usize) -> Listed
     requires { ⌜ (size ≤ largestSize) × (12 + 4 * (i + 1) ≤ length (now bytes)) ⌝ }
+    ensures { λ r. ⌜ Follows reader size (pairAt (now (bytes .entry)) i) r ⌝ }
 {
     let mut image = io::buffer();
     let whole = input::read_whole(&mut image[..size]);

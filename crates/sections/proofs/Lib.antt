@@ -1,2 +1,3 @@
--- The laws that the proofs of this crate share, and those that the program cites.
+-- The laws that the proofs of this crate share, and what judging the sections as they are read comes to.
 pub mod SectionLaws
+pub mod Theorems

@@ -45,6 +45,10 @@ sizeSection s = section s 8 (between leastSize (numberAt 4 s 4) largestSize) (gr
 unfoldable pub sectionsOf : List ℕ → Sections
 sectionsOf s = section s 4 (eqb (numberAt 4 s 0) 1) (sizeSection s)
 
+-- Reading is over on an input: no section is asked for, or one that the input is too short for ("short input").
+abbrev pub Over : List ℕ → Sections → Type 0
+Over input r = (to : ℕ) → r ≡ Next to → length input < to
+
 -- "G pairs of 2-byte group number and 2-byte entry count": the pair of group i, counted from 0.
 unfoldable pub pairAt : List ℕ → ℕ → Pair
 pairAt s i = record { number = numberAt 2 s (12 + 4 * i); entries = numberAt 2 s (12 + 4 * i + 2) }

@@ -4,6 +4,7 @@ use Prim.Native.Nat.{ℕ, _+_, _*_}
 use mathlib.Core.Path.{_≡_}
 use mathlib.Core.List.{List, []}
 use mathlib.Core.Bool.{Bool, cond}
+use lib.ListN.{length}
 use Rattle.lines.specs.Added.{Added}
 use Rattle.lines.specs.Text.{groupLines, refusalLine, endLine, badLine}
 use Rattle.reader.specs.declared.Reader.{Reader}
@@ -72,3 +73,11 @@ longestText = 36 + 32 * mostEntries
 pub record Tells (step : Step) (old text : List ℕ) (said : Said) : Type 0 where
   pub added : Added longestText old 0 (step .text) text (said .length)
   pub goes : said .then ≡ step .then
+
+-- Serves the program's contracts, which cannot say what is read: how the run goes on after the group of a pair is how it does
+-- after the step of some image of this size, whole or cut short.
+pub record Follows (s : Reader) (size : ℕ) (pair : Pair) (then : Listed) : Type 0 where
+  pub whole : Bool
+  pub image : List ℕ
+  pub long : length image ≡ size
+  pub goes : then ≡ groupStep s whole image pair .then

@@ -1,4 +1,4 @@
--- `list_group` lends as much of its buffer as a group has. Assumes nothing.
+-- `list_group` lends as much of its buffer as a group has, and goes on as it is told. Assumes nothing.
 use Prim.Native.Nat.{_≤_}
 use mathlib.Core.Path.{sym}
 use mathlib.Core.List.{_++_}
@@ -31,4 +31,10 @@ list-group-spec =
     (λ c κs. search needs)
     (λ c. search needs)
     (λ c κs. search needs)
-    (λ c. search needs))
+    (λ c.
+    record {
+      whole = _;
+      image = _;
+      long = length-take-le _ _ (room (c .before .before .before .before .before));
+      goes = c .before .before .before .tell-group .ensures .goes;
+    }))
