@@ -4,8 +4,5 @@ pub mod Accepted
 pub mod Filling
 pub mod Sound
 pub mod Settled
-<<<<<<< HEAD
 pub mod Refused
-=======
 pub mod Blind
->>>>>>> f07d8442656c18fed7fd1c95bab9e3a60b3d1323

@@ -5,12 +5,13 @@ use native.Mathlib.Omega.{arith}
 use mathlib.Core.List.{List}
 use mathlib.Core.Bool.{Bool, true, false, cond, not, true≢false}
 use mathlib.Core.Path.{_≡_, refl, sym, ap, _∙_, subst}
-use lib.ListN.{length, take, drop, length-drop}
+use lib.ListN.{length, length-append, take, drop, length-drop}
+use lib.Seq.{length-take-le}
 use borrow.Author.Tests.{eq-eqb, le-leb}
 use Rattle.group.specs.declared.Kind.the-variants as kind
 use Rattle.group.specs.declared.Phase.{Phase}
 use Rattle.group.specs.declared.Phase.the-variants.{Free, Inside, Owed}
-use Rattle.group.specs.Sizes.{longestRecord, lastNumber, recordKept}
+use Rattle.group.specs.Sizes.{informationLength, longestRecord, lastNumber, recordKept}
 use Rattle.numbers.proofs.Tests.{is-within}
 use Rattle.laying.specs.declared.Writer.{Writer}
 use Rattle.writer.specs.declared.WriteAnswer.{WriteAnswer}
@@ -28,7 +29,7 @@ use Rattle.writer.proofs.CallLaws.{RecordedFree, recorded-free, RecordedInside,
 use Rattle.writer.proofs.Theorems.{sound-start, sound-after, length-stays}
 use Rattle.layout.specs.Layout.{Image}
 use Rattle.layout.specs.Writing.{Account, inHand, afterRecord, noted, AsAsked, Wrote}
-use Rattle.layout.proofs.Accounts.{AsGiven, as-given}
+use Rattle.layout.proofs.Accounts.{as-given, as-came}
 use Rattle.twice.proofs.Paid.{paid-size, paid-free, guarded}
 use Rattle.twice.specs.Taking.{Proper}
 
@@ -128,14 +129,13 @@ kept (Wrote.closes {w} {s} {number} {entries} {taken} {now = now} c information 
     let k = kept x in
     let n = of-closed (subst (Next (w .state .size) (λ o. noted c (w .state .phase) o now)) e (next c w now q)) in
     record { sized = n .0 ∙ k .sized; long = l; fine = sound-then c w (Closed s number entries taken) e refl; rest = n .1 }
-kept (Wrote.refused {w} {s} {refusal} c x e) =
+kept {size} {now = now} (Wrote.refused {w} {s} {refusal} c lent x e) =
+    subst (λ (t : Writer). Kept size (desk t (w .group)) now) (as-came (desk (w .state) lent) _ _ s refusal (as-given c (desk (w .state) lent)) e) (kept x)
+kept (Wrote.changed {w} information x i) =
     let k = kept x in
-    by (call c w .answer) (call c w .group) (as-given c w) e k
-  where
-    by : {size : ℕ} {a : Account} (o : WriteAnswer) (g : List ℕ) → AsGiven w o g → o ≡ Refused s refusal → Kept size w a → Kept size (desk s g) a
-    by o g AsGiven.given-refused f k = let u : w .state ≡ s = cc in rw (← u) k
-    by o g AsGiven.given-finished f k = let z : _≡_ {A = ℕ} 0 1 = cc in absurd (omega arith)
-    by o g AsGiven.given-closed f k = let z : _≡_ {A = ℕ} 0 1 = cc in absurd (omega arith)
+    let l = sound (w .state) (k .fine) .run .least in
+    let t : length (take (length (w .group) - informationLength) (w .group)) ≡ length (w .group) - informationLength = length-take-le (length (w .group) - informationLength) (w .group) (omega arith) in
+    record { sized = k .sized; long = simp length-append (omega (arith, t, k .long, k .sized)); fine = k .fine; rest = k .rest }
 
 -- The chains.
 record-let : (s : Writer) (len n : ℕ) → writerSound s ≡ true → len ≡ s .size → s .next ≤ 65535 → 1 ≤ n → n ≤ 16777215 → offerKept s n ≡ true → recordRefusal s len n ≡ 0
