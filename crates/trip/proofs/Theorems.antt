@@ -19,13 +19,15 @@ use Rattle.layout.specs.Reading.{OfBytes, itemsRead, begunRead}
 use Rattle.layout.specs.Stated.{EndsWith}
 use Rattle.layout.specs.Writing.{Account}
 use Rattle.layout.proofs.Order.{each-before}
+use Rattle.layout.proofs.Ended.{none-waits}
+use Rattle.layout.proofs.Returned.{none-begun}
 use Rattle.layout.proofs.Theorems.{complete, lawful, state-at-end, exchanged, only-one, returned}
 use Rattle.slices.specs.Call.{Left, answerLength}
 use Rattle.states.specs.States.{readerLength, readerOf, writerOf}
 use Rattle.c_reader.specs.Calls.{ddsReaderStart, readerLeft}
-use Rattle.trip.specs.ThroughC.{callC, outcomeSeen, Loan, LentC, numbersLent, WroteC, AcceptsC}
-use Rattle.trip.specs.Stated.{Written, GivesBackC, AcceptedC, AcceptsOwn, AtEndC, OutOfOrderC}
-use Rattle.trip.proofs.Writing.{written-through, either-seen}
+use Rattle.trip.specs.ThroughC.{callC, outcomeSeen, Loan, LentC, numbersLent, WroteC, WasEndedC, AcceptsC}
+use Rattle.trip.specs.Stated.{Written, GivesBackC, AllClosedC, AcceptedC, AcceptsOwn, AtEndC, OutOfOrderC}
+use Rattle.trip.proofs.Writing.{written-through, ended-rests, either-seen}
 use Rattle.trip.proofs.Reading.{slice, enough-lent, held-slice, starts-through, sound-fresh, refused-through, accepted-through, sound-end}
 use Rattle.trip.proofs.Settled.{start-lent, lent-enough, same-reading}
 use Rattle.trip.proofs.Accepting.{accepts-own, split}
@@ -62,6 +64,20 @@ module _ (size first : ℕ) (state group : List ℕ) (run : List Image) (closed 
         items = y .items;
         begun = y .begun;
         ends = subst (λ (r : Reader). EndsWith size first run (a .rows) (closed .begun) r) (sym (held-slice (a .final) (sound-end (a .accepts) h))) ends;
+      }
+
+  -- "End": what is written reaches the tape. After an end that returned 0 the groups closed give back all that was written.
+  pub c-ended : WasEndedC x → AllClosedC size first state run closed now
+  unfolding writerOf
+  c-ended h =
+      let r = ended-rests x h in
+      let same = none-waits (c-wrote .wrote) (r .0) in
+      record {
+        none = r .0;
+        free = r .1;
+        all = same;
+        whole = none-begun (c-wrote .wrote) (r .1);
+        gives-back = λ old answer loans e f l. subst (λ (a : Account). GivesBackC size first old answer run loans a) same (c-returned old answer loans e f l);
       }
 
   -- Whatever slices C lends, and whatever stands in them: a reading of those groups in which every call returned 0 gives back the

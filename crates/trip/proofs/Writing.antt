@@ -24,7 +24,7 @@ use Rattle.sound.specs.State.{writerSound}
 use Rattle.laying.specs.Laying.{Desk, desk}
 use Rattle.writer.specs.Calls.{Done, done, startTold, recordCall, separatorCall, endCall, Call, call, refusalOf, told, stateOf}
 use Rattle.writer.specs.Calls.Call.{aRecord, aSeparator, anEnd}
-use Rattle.writer.proofs.Theorems.{refusal-told, refused-stays, sound-after, sound-start}
+use Rattle.writer.proofs.Theorems.{refusal-told, refused-stays, sound-after, end-empties, sound-start}
 use Rattle.layout.specs.Layout.{Image}
 use Rattle.layout.specs.Writing.{Account, noted, AsAsked, imageOf, Wrote}
 use Rattle.answer.specs.Answer.{numbersTold, refusalTold, ifAccepted}
@@ -35,7 +35,7 @@ use Rattle.c_writer.specs.Calls.{ddsWriterStart, written, writing, ddsRecord, d
 use Rattle.c_writer.specs.Accepted.{Accepts, CallAccepted}
 use Rattle.c_writer.proofs.Theorems.{record-returns-zero, separator-returns-zero, end-returns-zero}
 use Rattle.states.proofs.StateLaws.{writer-of-bytes, sound-writer-fits}
-use Rattle.trip.specs.ThroughC.{callC, CallC, recordC, separatorC, endC, askedC, phaseSeen, outcomeSeen, numberSeen, entriesSeen, finishedSeen, closedSeen, WroteC}
+use Rattle.trip.specs.ThroughC.{callC, CallC, recordC, separatorC, endC, askedC, phaseSeen, outcomeSeen, numberSeen, entriesSeen, finishedSeen, closedSeen, WroteC, WasEndedC}
 use Rattle.trip.specs.Stated.{Written}
 use Rattle.trip.proofs.Told.{Tells, TellsStart, call-tells, start-tells}
 
@@ -251,6 +251,29 @@ written-through {size} {first} {group = group} {run} {closed} {now} (WroteC.refu
 written-through (WroteC.changed information x i) =
     let y = written-through x in
     record { wrote = Wrote.changed information (y .wrote) i; sound = y .sound; bytes = y .bytes }
+
+-- After an end from C that returned 0 the state slice holds no entry, and the writer is free.
+abbrev Rests : Writer → Type 0
+Rests s = (s .entries ≡ 0) × (s .phase ≡ Free)
+
+rested : (warn : Bool) (w : Desk) (a : WriteAnswer) → call (anEnd warn) w .answer ≡ a → refusalTold (told a) ≡ 0 → Rests (stateOf a)
+rested warn w a e = subst (λ (b : WriteAnswer). refusalTold (told b) ≡ 0 → Rests (stateOf b)) e (end-empties warn w)
+
+pub ended-rests : {size first : ℕ} {state group : List ℕ} {run : List Image} {closed now : Account} (x : WroteC size first state group run closed now) → WasEndedC x → Rests (writerOf state)
+unfolding WasEndedC stateOf
+ended-rests (WroteC.begins state answer group e n l) h = absurd h
+ended-rests (WroteC.goes-on (aRecord bytes warn) answer x q e n f) h = absurd h
+ended-rests (WroteC.goes-on (aSeparator value warn) answer x q e n f) h = absurd h
+ended-rests (WroteC.goes-on {state} {group} (anEnd warn) answer x q e n f) h =
+    let w = desk (writerOf state) group in
+    rested warn w _ (step-finished (call-tells (anEnd warn) w) (sound-after (anEnd warn) w) (held-way (written-through x) (anEnd warn) answer e) n f .answer) refl
+ended-rests (WroteC.closes (aRecord bytes warn) answer information buffer x q e n f i j) h = absurd h
+ended-rests (WroteC.closes (aSeparator value warn) answer information buffer x q e n f i j) h = absurd h
+ended-rests (WroteC.closes {state} {group} (anEnd warn) answer information buffer x q e n f i j) h =
+    let w = desk (writerOf state) group in
+    rested warn w _ (step-closed (call-tells (anEnd warn) w) (sound-after (anEnd warn) w) (held-way (written-through x) (anEnd warn) answer e) n f .answer) refl
+ended-rests (WroteC.refused {state} c lent answer x e n) h = subst (λ (s : List ℕ). Rests (writerOf s)) (sym (state-stays c state lent answer e n)) (ended-rests x h)
+ended-rests (WroteC.changed information x i) h = ended-rests x h
 
 -- An accepted call is seen as finished or as closed, whatever is lent: no other outcome is told.
 seen : {a : WriteAnswer} (answer : List ℕ) → Accepts a → answer ≡ inBytes (numbersTold (told a)) → (field answer 2 ≡ 0) ⊎ (field answer 2 ≡ 1)

@@ -6,7 +6,8 @@ use mathlib.Core.List.{List, [], _∷_, _++_}
 use mathlib.Core.Bool.{true}
 use mathlib.Core.Path.{_≡_}
 use lib.ListN.{length}
-use Rattle.numbers.specs.Numbers.{inBytes}
+use Rattle.numbers.specs.Numbers.{inBytes, field}
+use Rattle.group.specs.declared.Phase.the-variants.{Free}
 use Rattle.reader.specs.declared.Reader.{Reader}
 use Rattle.reader.specs.declared.ReaderStart.the-variants.{Started}
 use Rattle.reader.specs.Answer.{sound as readerSound, readerStartCall}
@@ -19,9 +20,9 @@ use Rattle.layout.specs.Reading.{itemsRead, begunRead}
 use Rattle.layout.specs.Stated.{EndsWith}
 use Rattle.layout.specs.Writing.{Account, Wrote}
 use Rattle.slices.specs.Call.{left, answerLength}
-use Rattle.states.specs.States.{readerOf, readerBytes, writerOf, writerNumbers}
+use Rattle.states.specs.States.{readerLength, readerOf, readerBytes, writerOf, writerNumbers}
 use Rattle.c_reader.specs.Calls.{ddsReaderStart, ddsRead, readerLeft}
-use Rattle.trip.specs.ThroughC.{Loan, numbersLent, AcceptsC}
+use Rattle.trip.specs.ThroughC.{phaseSeen, Loan, LentC, numbersLent, AcceptsC}
 
 -- The state slice is the bytes of a sound state, and with that state the writer's own calls wrote the same.
 pub record Written (size first : ℕ) (state group : List ℕ) (run : List Image) (closed now : Account) : Type 0 where
@@ -40,6 +41,16 @@ pub record GivesBackC (size first : ℕ) (state answer : List ℕ) (run : List I
   pub items : itemsRead run rows ≡ a .finished
   pub begun : begunRead run rows ≡ a .begun
   pub ends : EndsWith size first run rows (a .begun) (readerOf final)
+
+-- After an end from C: the state slice holds no entry and no open record, the account at the last close is the account now, and the
+-- groups closed, read from C with any slices that are long enough, give all of it back.
+pub record AllClosedC (size first : ℕ) (state : List ℕ) (run : List Image) (closed now : Account) : Type 0 where
+  pub none : field state 5 ≡ 0
+  pub free : phaseSeen state ≡ Free
+  pub all : closed ≡ now
+  pub whole : now .begun ≡ []
+  pub gives-back : (old answer : List ℕ) (loans : List Loan) → length old ≡ readerLength → length answer ≡ answerLength → LentC run loans →
+      GivesBackC size first old answer run loans now
 
 -- A run that C reads to its end, whoever wrote it: the start returned 0, and from the state slice that it left every read did, lent
 -- just these slices.

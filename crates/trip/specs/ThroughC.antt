@@ -13,7 +13,7 @@ use Rattle.writer.specs.declared.WriteAnswer.the-variants.{Finished, Closed}
 use Rattle.writer.specs.Calls.{Call}
 use Rattle.writer.specs.Calls.Call.{aRecord, aSeparator, anEnd}
 use Rattle.layout.specs.Layout.{Image}
-use Rattle.layout.specs.Writing.{Account, blank, noted, AsAsked, withInformation, imageOf}
+use Rattle.layout.specs.Writing.{Account, blank, noted, AsAsked, IsEnd, withInformation, imageOf}
 use Rattle.slices.specs.Call.{Left, answerLength}
 use Rattle.states.specs.States.{phaseOf, b4Number, writerOf}
 use Rattle.c_reader.specs.Calls.{ddsRead, readerLeft, rowsRead}
@@ -88,6 +88,14 @@ pub data WroteC (size first : ℕ) : List ℕ → List ℕ → List Image → Ac
   changed : {state group : List ℕ} {run : List Image} {closed now : Account} (information : List ℕ) →
       WroteC size first state group run closed now → length information ≡ informationLength →
       WroteC size first state (withInformation group information) run closed now
+
+-- A writing from C that was ended: the last call that returned 0 is an end.
+unfoldable pub WasEndedC : {size first : ℕ} {state group : List ℕ} {run : List Image} {closed now : Account} → WroteC size first state group run closed now → Type 0
+WasEndedC (begins state answer group e zero l) = ⊥
+WasEndedC (goes-on c answer x asked e zero f) = IsEnd c
+WasEndedC (closes c answer information buffer x asked e zero f i l) = IsEnd c
+WasEndedC (refused c lent answer x e n) = WasEndedC x
+WasEndedC (changed information x i) = WasEndedC x
 
 -- What a read is lent besides the group: a slice for its rows and one for its answer.
 pub record Loan : Type 0 where
