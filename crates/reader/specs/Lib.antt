@@ -1,4 +1,3 @@
--- What a reader of this crate must believe: a group's rows, what each call answers and leaves, and what of a group it looks at.
+-- What a reader of this crate must believe: a group's rows, and what each call answers and leaves.
 pub mod Rows
 pub mod Answer
-pub mod Table
