@@ -1,3 +1,4 @@
 -- The laws that the proofs of this crate share, and those that the crates above cite.
 pub mod Faults
 pub mod Scans
+pub mod Tables

@@ -1,36 +1,18 @@
 -- The theorem that a read looks at the table alone, and what it is made of.
 -- Assumes nothing.
-use Prim.Native.Nat.{ℕ, zero, suc, _+_, _*_, _-_, _≤_, _<_}
-use native.Mathlib.Omega.{arith}
+use Prim.Native.Nat.{ℕ}
 use mathlib.Core.List.{List}
 use mathlib.Core.Path.{_≡_, refl, sym, ap, _∙_}
 use mathlib.Core.Bool.{Bool, true, false}
 use lib.Dec.{eqb}
-use lib.ListN.{length, getD}
+use lib.ListN.{length}
 use borrow.Author.Tests.{eqb-true}
-use Rattle.numbers.specs.Numbers.{numberAt}
-use Rattle.group.specs.Sizes.{informationLength}
-use Rattle.group.specs.Entries.{entryAt, entriesBelow}
+use Rattle.entry.specs.Table.{SameTable}
+use Rattle.entry.proofs.Tables.{same-entries}
 use Rattle.reader.specs.declared.Reader.{Reader}
 use Rattle.reader.specs.declared.ReadAnswer.{ReadAnswer}
 use Rattle.reader.specs.Answer.{readRefusal, groupScan, readCall, groupRows, rowsLeft, Reads}
-use Rattle.reader.specs.Table.{SameTable}
 use Rattle.reader.proofs.Accepted.{ready}
-
-number-same : (width : ℕ) (g h : List ℕ) (at : ℕ) → ((i : ℕ) → at ≤ i → i < at + width → getD g i 0 ≡ getD h i 0) → numberAt width g at ≡ numberAt width h at
-unfolding numberAt
-number-same zero g h at e = refl
-number-same (suc more) g h at e = rw (e at (omega arith) (omega arith), number-same more g h (at + 1) (λ i a b. e i (omega arith) (omega arith)))
-
-entries-same : (g h : List ℕ) (top n : ℕ) → 4 * n ≤ top → ((i : ℕ) → top - 4 * n ≤ i → i < top → getD g i 0 ≡ getD h i 0) → entriesBelow g top n ≡ entriesBelow h top n
-unfolding entriesBelow entryAt
-entries-same g h top zero f e = refl
-entries-same g h top (suc n) f e =
-    rw (
-      e (top - 4) (omega arith) (omega arith),
-      number-same 3 g h (top - 4 + 1) (λ i a b. e i (omega arith) (omega arith)),
-      entries-same g h (top - 4) n (omega arith) (λ i a b. e i (omega arith) (omega arith)),
-    )
 
 -- What a read answers, and the rows that it leaves of old ones in a form.
 record Same (form : List ℕ → List ℕ) (s : Reader) (g h : List ℕ) (number n room : ℕ) (old : List ℕ) : Type 0 where
@@ -44,8 +26,7 @@ same form s g h number n room old t = by (eqb (readRefusal s (length h) number n
     by : (b : Bool) → eqb (readRefusal s (length h) number n room) 0 ≡ b → Same form s g h number n room old
     by true e =
         let r = ready s (length h) number n room (eqb-true _ 0 e) in
-        let alike : entriesBelow g (s .size - informationLength) n ≡ entriesBelow h (s .size - informationLength) n =
-        entries-same g h (s .size - 32) n (omega (arith, r .fits)) (λ i a b. t .table i (omega arith) (omega arith)) in
+        let alike = same-entries (s .size) n g h (r .fits) t in
         record { answers = rw (t .long, alike); rows = rw (t .long, alike) }
     by false e = record { answers = rw (t .long, e); rows = rw (t .long, e) }
 

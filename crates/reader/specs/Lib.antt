@@ -1,6 +1,4 @@
--- What a reader of this crate must believe: a group's rows, what each call answers and leaves, what a refused read answers, and
--- what of a group it looks at.
+-- What a reader of this crate must believe: a group's rows, what each call answers and leaves, and what a refused read answers.
 pub mod Rows
 pub mod Answer
 pub mod Refused
-pub mod Table
