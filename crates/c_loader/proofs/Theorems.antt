@@ -8,9 +8,8 @@ use Prim.Native.Nat.{ℕ, _+_, _^_, _≤_, _<_}
 use native.Mathlib.Omega.{arith}
 use borrow.Author.Tests.{eq-eqb, eqb-true}
 use lib.Dec.{eqb}
-use lib.ListN.{length, getD}
+use lib.ListN.{length}
 use Rattle.numbers.specs.Numbers.{numberAt, inBytes, field}
-use Rattle.numbers.proofs.InBytes.{field-of-bytes}
 use Rattle.answer.specs.declared.Told.{Told}
 use Rattle.answer.specs.Answer.{numbersTold, refusalTold}
 use Rattle.volume.specs.declared.VolumeAnswer.{VolumeAnswer}
@@ -29,13 +28,9 @@ use Rattle.radio.specs.Search.{MessageAt, First}
 use Rattle.radio.proofs.SearchLaws.{find-first, never-refused}
 use Rattle.radio.proofs.Theorems.{radio-first}
 use Rattle.slices.specs.Call.{Left, answerLength, answerKept, Tells}
-use Rattle.slices.proofs.Calls.{let-through, Leaves, leaves}
+use Rattle.slices.proofs.Calls.{let-through, Leaves, leaves, seen}
 use Rattle.c_loader.specs.Calls.{ddsVolumeMake, volumeMade, ddsVolumeRead, fieldsRead, ddsAlertMake, alertMade, ddsAlertRead, ddsRadioFind}
 use Rattle.c_loader.specs.Seen.{outcomeSeen, raisedSeen, lowestSeen, highSeen, lowSeen, patternSeen, lengthAtSeen, FirstSeen}
-
--- The k-th number of an answer slice.
-seen : (o : Left) (ns : List ℕ) → o .answer ≡ inBytes ns → (k : ℕ) → k < length ns → getD ns k 0 < 256 ^ 4 → field (o .answer) k ≡ getD ns k 0
-seen o ns e k h s = ap (λ (x : List ℕ). field x k) e ∙ field-of-bytes ns k h s
 
 -- What making and reading were let through to, whatever they answer; and one that returns 0 was let through.
 module _ (fields volume answer : List ℕ) (m : Left) (e : m ≡ ddsVolumeMake fields volume answer) where

@@ -7,9 +7,8 @@ use mathlib.Core.List.{List, [], _∷_}
 use Prim.Native.Nat.{ℕ, _^_, _<_, _≤_}
 use native.Mathlib.Omega.{arith}
 use borrow.Author.Tests.{eq-eqb, eqb-true}
-use lib.ListN.{length, getD}
-use Rattle.numbers.specs.Numbers.{inBytes, field}
-use Rattle.numbers.proofs.InBytes.{field-of-bytes}
+use lib.ListN.{length}
+use Rattle.numbers.specs.Numbers.{inBytes}
 use Rattle.answer.specs.Answer.{numbersTold, refusalTold}
 use Rattle.column.specs.Column.{lastRow, Column, column, Lawful, restoredOne, restoredTwo, mended}
 use Rattle.column.specs.Alike.{ColumnBytes, Same, SameBut, SameButTwo, AtMostOne}
@@ -19,7 +18,7 @@ use Rattle.third.specs.Answer.{firstCheckRow, makeCall, oneCall, twoCall, mendC
 use Rattle.third.specs.Written.{Lent, Written, MendTold, CheckTold, FirstHopeless}
 use Rattle.third.proofs.Theorems.{third-made, third-restored-one, third-restored-two, third-mended, third-mended-column, third-mends-one, third-told, third-checked}
 use Rattle.slices.specs.Call.{Left, answerLength, answerKept}
-use Rattle.slices.proofs.Calls.{stopped, let-through, Leaves, leaves}
+use Rattle.slices.proofs.Calls.{stopped, let-through, Leaves, leaves, seen}
 use Rattle.c_third.specs.Calls.{thirdCall, ddsThirdMake, ddsThirdCheck, ddsThirdRestoreOne, ddsThirdRestoreTwo, ddsThirdMend}
 use Rattle.c_third.specs.Seen.{rowsLeft, placeSeen, MendSeen, CheckSeen}
 
@@ -98,10 +97,6 @@ c-third-mends-one n old answer o e c lc = by (answerKept answer) refl
     by false k =
         let stays : rowsLeft o ≡ old = ap (λ (p : Left). rowsLeft p) (e ∙ sym (stopped _ _ (old ∷ []) answer k)) in
         (0, (omega arith, λ i li d. ap (λ (x : List ℕ). column x n c i) stays))
-
--- The k-th number of an answer slice.
-seen : (o : Left) (ns : List ℕ) → o .answer ≡ inBytes ns → (k : ℕ) → k < length ns → getD ns k 0 < 256 ^ 4 → field (o .answer) k ≡ getD ns k 0
-seen o ns e k h s = ap (λ (x : List ℕ). field x k) e ∙ field-of-bytes ns k h s
 
 -- "43 a column that no single change mends (the whole buffer then stays)"
 pub c-third-told : (n : ℕ) (old answer : List ℕ) → n < 256 ^ 4 → Lent n old → length answer ≡ answerLength → (o : Left) → o ≡ ddsThirdMend n old answer → MendSeen n old o

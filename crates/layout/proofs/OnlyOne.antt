@@ -5,19 +5,17 @@ use native.Mathlib.Omega.{arith}
 use mathlib.Core.List.{List, [], _∷_}
 use mathlib.Core.Path.{_≡_, refl, sym, ap, _∙_}
 use lib.ListN.{length, take, replicate, length-replicate}
-use Rattle.group.specs.declared.Entry.{Entry}
 use Rattle.group.specs.Sizes.{informationLength, longestRecord}
 use Rattle.numbers.specs.Store.{put}
-use Rattle.group.specs.Flags.{meaningOf}
 use Rattle.group.specs.Entries.{entriesBelow}
 use Rattle.numbers.proofs.Tests.{within}
 use Rattle.numbers.proofs.Stores.{put-stands}
 use Rattle.group.proofs.EntryLaws.{length-entries}
+use Rattle.reader.proofs.Filling.{length-rows}
 use Rattle.reader.specs.declared.Reader.{Reader}
 use Rattle.entry.specs.declared.Stand.{Stand}
 use Rattle.reader.specs.declared.ReadAnswer.{ReadAnswer}
 use Rattle.reader.specs.declared.ReadAnswer.the-variants as answer
-use Rattle.entry.specs.Scan.{reachedBy}
 use Rattle.reader.specs.Rows.{rowsFrom}
 use Rattle.reader.specs.Answer.{fresh, readCall, groupRows, rowsLeft}
 use Rattle.reader.proofs.Accepted.{accepted}
@@ -32,12 +30,6 @@ use Rattle.layout.proofs.Grammar.{Walk}
 use Rattle.layout.proofs.Assembled.{piecesIn, flat, in-grouped, items-of-tokens, begun-of-tokens}
 use Rattle.layout.proofs.Decode.{pieces-back}
 use Rattle.layout.proofs.Complete.{past, walk-of, complete-to}
-
--- Three numbers for each entry.
-length-rows : (reached : ℕ) (es : List Entry) → length (rowsFrom reached es) ≡ 3 * length es
-unfolding rowsFrom
-length-rows reached [] = refl
-length-rows reached (e ∷ es) = omega (arith, length-rows (reachedBy (meaningOf (e .flag)) reached (e .count)) es)
 
 -- The first 3n numbers of what an accepted read leaves are the group's rows.
 rows-given : (s t : Reader) (g : Image) (old : List ℕ) → readCall s (g .bytes) (g .number) (g .entries) (length old) ≡ answer.Accepted t →

@@ -19,7 +19,7 @@ use Rattle.reader.specs.Answer.{fresh}
 use Rattle.laying.specs.declared.Writer.{Writer}
 use Rattle.laying.specs.declared.WriterStart.the-variants as start
 use Rattle.writer.specs.declared.WriteAnswer.{WriteAnswer}
-use Rattle.writer.specs.declared.WriteAnswer.the-variants.{Finished, Closed, Refused}
+use Rattle.writer.specs.declared.WriteAnswer.the-variants.{Finished, Closed}
 use Rattle.laying.specs.Laying.{Desk, desk}
 use Rattle.writer.specs.Calls.{Call, call}
 use Rattle.layout.specs.Items.{Piece, grouped}

@@ -4,13 +4,13 @@ use mathlib.Core.Path.{_≡_, refl, sym, ap, _∙_}
 use mathlib.Core.Logic.{_↔_}
 use mathlib.Core.Bool.{Bool, true, false, true≢false}
 use mathlib.Core.List.{List, [], _∷_}
-use Prim.Native.Nat.{ℕ}
+use Prim.Native.Nat.{ℕ, _^_, _<_}
 use native.Mathlib.Omega.{arith}
 use borrow.Author.Tests.{eqb-true}
 use lib.Dec.{eqb}
 use lib.ListN.{length, getD}
-use Rattle.numbers.specs.Numbers.{inBytes}
-use Rattle.numbers.proofs.InBytes.{length-in-bytes}
+use Rattle.numbers.specs.Numbers.{inBytes, field}
+use Rattle.numbers.proofs.InBytes.{length-in-bytes, field-of-bytes}
 use Rattle.numbers.proofs.Tests.{both}
 use Rattle.answer.specs.declared.Told.{Told}
 use Rattle.answer.specs.declared.Told.the-variants.{Accepted, RefusedAt}
@@ -137,3 +137,7 @@ unfolding called
 refused-leaves true (Accepted outcome number entries taken) new old answer e n = absurd (n (ap (λ (p : Left). p .refusal) e))
 refused-leaves true (RefusedAt refusal place) new old answer e n = ap (λ (p : Left). p .lent) e
 refused-leaves false told new old answer e n = ap (λ (p : Left). p .lent) e
+
+-- The k-th number of an answer slice.
+pub seen : (o : Left) (ns : List ℕ) → o .answer ≡ inBytes ns → (k : ℕ) → k < length ns → getD ns k 0 < 256 ^ 4 → field (o .answer) k ≡ getD ns k 0
+seen o ns e k h s = ap (λ (x : List ℕ). field x k) e ∙ field-of-bytes ns k h s

@@ -3,22 +3,16 @@
 use Prim.Native.Nat.{ℕ, _*_, _-_, _≤_}
 use mathlib.Core.Path.{_≡_, refl, sym, ap, _∙_, subst}
 use mathlib.Core.Bool.{Bool, true, false}
-use mathlib.Core.List.{List, [], _∷_}
+use mathlib.Core.List.{List}
 use native.Mathlib.Omega.{arith}
 use lib.ListN.{length, take}
 use Rattle.numbers.specs.Store.{put}
 use Rattle.numbers.proofs.Stores.{put-stands}
-use Rattle.group.specs.declared.Entry.{Entry}
-use Rattle.group.specs.Sizes.{informationLength}
-use Rattle.group.specs.Entries.{entriesBelow}
-use Rattle.group.specs.Flags.{meaningOf}
-use Rattle.group.proofs.EntryLaws.{length-entries}
-use Rattle.entry.specs.Scan.{reachedBy}
+use Rattle.reader.proofs.Filling.{length-group-rows}
 use Rattle.reader.specs.declared.Reader.{Reader}
 use Rattle.reader.specs.declared.ReaderStart.{ReaderStart}
 use Rattle.reader.specs.declared.ReadAnswer.{ReadAnswer}
 use Rattle.reader.specs.declared.ReadAnswer.the-variants as answer
-use Rattle.reader.specs.Rows.{rowsFrom}
 use Rattle.reader.specs.Answer.{readerStartCall, readCall, groupRows, rowsLeft, asNumbers, Reads}
 use Rattle.reader.proofs.Accepted.{accepted}
 use Rattle.sections.specs.declared.Pair.{Pair}
@@ -43,17 +37,6 @@ tells-as {old} {text} {step} {other} {said} e t = subst (λ (s : Step). Tells s 
 pub start-step : (size : ℕ) (pair first : Pair) (a b : ReaderStart) → pair ≡ first → a ≡ readerStartCall size (pair .number) → a ≡ b → startStep size first ≡ stepOfStart b
 unfolding startStep
 start-step size pair first a b p e f = ap (λ (q : Pair). stepOfStart (readerStartCall size (q .number))) (sym p) ∙ ap stepOfStart (sym e ∙ f)
-
--- Three numbers for each entry.
-length-rows : (reached : ℕ) (es : List Entry) → length (rowsFrom reached es) ≡ 3 * length es
-unfolding rowsFrom
-length-rows reached [] = refl
-length-rows reached (e ∷ es) = omega (arith, length-rows (reachedBy (meaningOf (e .flag)) reached (e .count)) es)
-
-length-group-rows : (s : Reader) (group : List ℕ) (n : ℕ) → length (groupRows s group n) ≡ 3 * n
-unfolding groupRows
-length-group-rows s group n =
-    omega (arith, length-rows 0 (entriesBelow group (s .size - informationLength) n), length-entries group (s .size - informationLength) n)
 
 -- The lines of a group are made of its own rows, whatever stood in the room for them.
 lines-left : (s : Reader) (group : List ℕ) (number n : ℕ) (old : List ℕ) → 3 * n ≤ length old

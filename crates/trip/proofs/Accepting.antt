@@ -23,7 +23,8 @@ use Rattle.c_reader.specs.Calls.{ddsRead, readerLeft, rowsRead}
 use Rattle.c_reader.proofs.Theorems.{start-returns-zero, read-returns-zero, read-left}
 use Rattle.trip.specs.ThroughC.{Loan, LentC, numbersLent, AcceptsC}
 use Rattle.trip.specs.Stated.{AcceptedC, AcceptsOwn, SplitC}
-use Rattle.trip.proofs.SmallRows.{small-rows, length-group-rows}
+use Rattle.trip.proofs.SmallRows.{small-rows}
+use Rattle.reader.proofs.Filling.{length-group-rows}
 use Rattle.trip.proofs.Reading.{slice, held-slice, starts-through, sound-fresh}
 use Rattle.trip.proofs.Settled.{start-lent, lent-enough}
 

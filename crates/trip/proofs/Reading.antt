@@ -14,6 +14,7 @@ use Rattle.group.specs.Sizes.{leastSize, standardSize, lastNumber}
 use Rattle.numbers.specs.Store.{put}
 use Rattle.numbers.proofs.Tests.{within}
 use Rattle.group.proofs.StateLaws.{Run, started, sound-of-run}
+use Rattle.reader.proofs.Filling.{length-group-rows}
 use Rattle.reader.specs.declared.Reader.{Reader}
 use Rattle.reader.specs.declared.ReaderStart.the-variants as start
 use Rattle.reader.specs.declared.ReadAnswer.{ReadAnswer}
@@ -28,7 +29,7 @@ use Rattle.states.specs.States.{readerLength, phaseNumber, phaseMeant, readerOf
 use Rattle.c_reader.specs.Calls.{ddsReaderStart, ddsRead}
 use Rattle.states.proofs.StateLaws.{reader-of-bytes, sound-reader-fits}
 use Rattle.trip.specs.ThroughC.{Loan, LentC, numbersLent, AcceptsC}
-use Rattle.trip.proofs.SmallRows.{small-rows, length-group-rows}
+use Rattle.trip.proofs.SmallRows.{small-rows}
 
 -- The bytes of a reader's state.
 abbrev pub slice : Reader → List ℕ

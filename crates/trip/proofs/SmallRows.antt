@@ -3,11 +3,10 @@
 use mathlib.Core.Path.{_≡_, refl, subst}
 use mathlib.Core.Bool.{Bool, true, false, cond}
 use mathlib.Core.List.{List, [], _∷_}
-use Prim.Native.Nat.{ℕ, suc, _+_, _*_, _-_, _^_, _≤_, _<_}
+use Prim.Native.Nat.{ℕ, suc, _+_, _-_, _^_, _≤_, _<_}
 use native.Mathlib.Omega.{arith}
 use borrow.Author.Tests.{eqb-true, leb-true}
 use lib.Dec.{eqb, leb}
-use lib.ListN.{length}
 use Rattle.numbers.proofs.InBytes.{Smalls}
 use Rattle.group.specs.declared.Entry.{Entry}
 use Rattle.group.specs.declared.Kind.{Kind}
@@ -17,7 +16,6 @@ use Rattle.group.specs.declared.Meaning.the-variants.{Known, Unknown}
 use Rattle.group.specs.Sizes.{standardSize, informationLength, longestRecord}
 use Rattle.group.specs.Flags.{meaningOf}
 use Rattle.group.specs.Entries.{entriesBelow}
-use Rattle.group.proofs.EntryLaws.{length-entries}
 use Rattle.reader.specs.declared.Reader.{Reader}
 use Rattle.entry.specs.declared.Cursor.{Cursor}
 use Rattle.entry.specs.declared.ScanEnd.the-variants.{Reached}
@@ -86,13 +84,3 @@ small-rows s t group number n room e =
     let p = accepted s t group number n room e in
     let r = p .ready .run in
     small-scan (s .size) _ (entriesBelow group (s .size - informationLength) n) 1 (opening s) (p .end) (r .most) (omega arith) (begins (p .ready)) (p .reached)
-
-length-rows : (reached : ℕ) (es : List Entry) → length (rowsFrom reached es) ≡ 3 * length es
-unfolding rowsFrom
-length-rows reached [] = refl
-length-rows reached (e ∷ es) = omega (arith, length-rows (reachedBy (meaningOf (e .flag)) reached (e .count)) es)
-
-pub length-group-rows : (s : Reader) (group : List ℕ) (n : ℕ) → length (groupRows s group n) ≡ 3 * n
-unfolding groupRows
-length-group-rows s group n =
-    omega (arith, length-rows 0 (entriesBelow group (s .size - informationLength) n), length-entries group (s .size - informationLength) n)

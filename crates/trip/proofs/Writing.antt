@@ -22,9 +22,9 @@ use Rattle.writer.specs.declared.WriteAnswer.{WriteAnswer}
 use Rattle.writer.specs.declared.WriteAnswer.the-variants.{Finished, Closed, Refused}
 use Rattle.sound.specs.State.{writerSound}
 use Rattle.laying.specs.Laying.{Desk, desk}
-use Rattle.writer.specs.Calls.{Done, done, startTold, recordCall, separatorCall, endCall, Call, call, refusalOf, told, stateOf}
+use Rattle.writer.specs.Calls.{Done, done, startTold, recordCall, separatorCall, endCall, Call, call, told, stateOf}
 use Rattle.writer.specs.Calls.Call.{aRecord, aSeparator, anEnd}
-use Rattle.writer.proofs.Theorems.{refusal-told, refused-stays, sound-after, end-empties, sound-start}
+use Rattle.writer.proofs.Theorems.{sound-after, end-empties, sound-start}
 use Rattle.layout.specs.Layout.{Image}
 use Rattle.layout.specs.Writing.{Account, noted, AsAsked, imageOf, Wrote}
 use Rattle.answer.specs.Answer.{numbersTold, refusalTold, ifAccepted}

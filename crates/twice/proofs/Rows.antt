@@ -18,6 +18,7 @@ use Rattle.group.specs.Flags.{kindNumber, flagOf, kinds, meaningAmong, meaningO
 use Rattle.group.specs.Entries.{entryAt, entriesBelow}
 use Rattle.group.proofs.EntryLaws.{length-entries}
 use Rattle.entry.specs.Scan.{reachedBy}
+use Rattle.reader.proofs.Filling.{length-rows}
 use Rattle.reader.specs.declared.Reader.{Reader}
 use Rattle.reader.specs.declared.ReadAnswer.the-variants as answer
 use Rattle.reader.specs.Rows.{rowsFrom, rowKind}
@@ -76,11 +77,6 @@ data-to : (group : List ℕ) (size k : ℕ) → before group (size - 32) k ≡ d
 unfolding before dataTo
 data-to group size zero = refl
 data-to group size (suc k) = before-last group (size - 32) k ∙ ap (λ (n : ℕ). n + dataIs (entryOf group size (suc k))) (data-to group size k)
-
-length-rows : (reached : ℕ) (es : List Entry) → length (rowsFrom reached es) ≡ 3 * length es
-unfolding rowsFrom
-length-rows reached [] = refl
-length-rows reached (e ∷ es) = omega (arith, length-rows (reachedBy (meaningOf (e .flag)) reached (e .count)) es)
 
 row-at : (g rest : List ℕ) (top n reached k : ℕ) → k < n →
     take 3 (drop (3 * k) (rowsFrom reached (entriesBelow g top n) ++ rest)) ≡ kindIs (entryAt g (top - 4 * suc k)) ∷ (reached + before g top k) ∷ entryAt g (top - 4 * suc k) .count ∷ []
