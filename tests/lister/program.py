@@ -1,9 +1,12 @@
-"""Running the lister: on a whole input, and on one that is fed no further than each piece of text needs."""
+"""Running the lister: on a whole input, on one that is fed no further than each piece of text needs, and where a write fails."""
+import fcntl
 import os
 import platform
 import select
 import shutil
+import struct
 import subprocess
+import termios
 import time
 
 import model
@@ -93,3 +96,44 @@ def printed(p, n):
             break
         got += some
     return got
+
+
+def cut_off(lister, data):
+    """What is wrong with what it prints where a write fails for a while, or None: it must be a beginning of what is due."""
+    theirs, ours = os.pipe()
+    room = fcntl.fcntl(ours, fcntl.F_SETPIPE_SZ, 4096)
+    os.set_blocking(ours, False)
+    due = model.listing(data)
+    with subprocess.Popen(lister, stdin=subprocess.PIPE, stdout=ours, bufsize=0) as p:
+        os.close(ours)
+        try:
+            sent = told = 0
+            for taken, _, text in model.moments(data):
+                feed(p, data[sent:taken], False)
+                sent, told = taken, told + len(text)
+                if told > 2 * room:
+                    break
+            read_or_ended(p)
+            got = os.read(theirs, room)
+            feed(p, data[sent:], False)
+            p.stdin.close()
+            with os.fdopen(theirs, 'rb') as rest:
+                got += rest.read()
+            if p.wait(PATIENCE) < 0:
+                return f'it died by signal {-p.returncode}'
+        finally:
+            if p.poll() is None:
+                p.kill()
+    if told <= 2 * room or got == due:
+        return 'no write failed'
+    return None if due.startswith(got) else 'where a write failed, ' + differ(due, got)
+
+
+def read_or_ended(p):
+    """Until all that was fed has been read and its text tried, or the program has ended."""
+    until = time.monotonic() + PATIENCE
+    while p.poll() is None and time.monotonic() < until:
+        unread = struct.unpack('i', fcntl.ioctl(p.stdin.fileno(), termios.FIONREAD, b'\0\0\0\0'))[0]
+        time.sleep(0.2)
+        if unread == 0:
+            break

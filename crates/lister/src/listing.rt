@@ -17,7 +17,8 @@ pub(crate) fn list_bad() {
     output::say(&text, said.length);
 }
 
-// One group: its image is read, and what is told of it is written.
+// One group: its image is read, and what is told of it is written. Where that fails the run stops, so that a listing may be cut
+// off and never has a hole.
 fn list_group(reader: Reader, size: usize, bytes: &[u8], i: usize) -> Listed
     requires { ⌜ (size ≤ largestSize) × (12 + 4 * (i + 1) ≤ length (now bytes)) ⌝ }
     ensures { λ r. ⌜ Follows reader size (pairAt (now (bytes .entry)) i) r ⌝ }
@@ -26,7 +27,9 @@ fn list_group(reader: Reader, size: usize, bytes: &[u8], i: usize) -> Listed
     let whole = input::read_whole(&mut image[..size]);
     let mut text = [0u8; TEXT_LENGTH];
     let said = telling::tell_group(&mut text, reader, whole, &image[..size], bytes, i);
-    output::say(&text, said.length);
+    if !output::say(&text, said.length) {
+        return Listed::Stopped;
+    }
     let then = said.then;
     then
 }

@@ -7,9 +7,9 @@ ghost use lib.ListN.{length};
 // own line, 32 at most for each row's.
 pub(crate) const TEXT_LENGTH: usize = 32768;
 
-// The first bytes of the text.
-pub(crate) fn say(text: &[u8], to: usize)
+// The first bytes of the text. False where not all of them could be written.
+pub(crate) fn say(text: &[u8], to: usize) -> bool
     requires { ⌜ to ≤ length (now text) ⌝ }
 {
-    io::write_all(STDOUT_FILENO, &text[..to]);
+    io::write_all(STDOUT_FILENO, &text[..to])
 }

@@ -1,11 +1,17 @@
--- `list_group` lends as much of its buffer as a group has, and goes on as it is told. Assumes nothing.
-use Prim.Native.Nat.{_≤_}
-use mathlib.Core.Path.{sym}
+-- `list_group` lends as much of its buffer as a group has, and goes on as it is told, or stops where that could not be written.
+-- Assumes nothing.
+use Prim.Native.Nat.{ℕ, _≤_}
+use mathlib.Core.Path.{refl, sym}
+use mathlib.Core.Bool.{false}
 use mathlib.Core.List.{_++_}
 use borrow.Author.Needs.{needs}
 use native.Mathlib.Omega.{arith}
-use lib.ListN.{length, drop, length-append}
+use lib.ListN.{length, drop, replicate, length-append, length-replicate}
 use lib.Seq.{length-take-le}
+use Rattle.reader.specs.declared.Reader.{Reader}
+use Rattle.sections.specs.declared.Pair.{Pair}
+use Rattle.telling.specs.declared.Listed.the-variants.{Stopped}
+use Rattle.telling.specs.Telling.{Follows, groupStep, badStep}
 use Rattle.lister.proofs.listing.list_group.Statement.{statement}
 use Rattle.lister.proofs.listing.list_group.Tie as tie
 
@@ -16,6 +22,11 @@ room : (c : tie.After-text)
 room c =
     let whole = length-take-le (c .before .before .before .before .before .before .args .size) (c .before .before .before .before .buffer .result) (omega (arith, c .before .before .before .before .buffer .ensures, c .before .before .before .before .before .before .pre .0)) in
     simp length-append (omega (arith, whole, c .before .before .read-whole .kept .0))
+
+-- A step that could not be written stops the run, as the step of an image cut short does.
+stopped : (s : Reader) (size : ℕ) (pair : Pair) → Follows s size pair Stopped
+unfolding groupStep badStep
+stopped s size pair = record { whole = false; image = replicate size 0; long = length-replicate {A = ℕ} size 0; goes = refl }
 
 pub list-group-spec : {M : Type 1} → statement M
 list-group-spec =
@@ -31,10 +42,11 @@ list-group-spec =
     (λ c κs. search needs)
     (λ c. search needs)
     (λ c κs. search needs)
+    (λ c. stopped _ _ _)
     (λ c.
     record {
       whole = _;
       image = _;
-      long = length-take-le _ _ (room (c .before .before .before .before .before));
-      goes = c .before .before .before .tell-group .ensures .goes;
+      long = length-take-le _ _ (room (c .before .before .before .before .before .before));
+      goes = c .before .before .before .before .tell-group .ensures .goes;
     }))
