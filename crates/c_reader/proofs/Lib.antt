@@ -1,3 +1,4 @@
 -- The laws of a reader's two calls, and the theorems.
 pub mod Laws
 pub mod Theorems
+pub mod Worked

@@ -11,6 +11,7 @@ use native.Mathlib.Numerals.{add-one}
 use Rattle.group.specs.declared.Entry.{Entry}
 use Rattle.numbers.specs.Store.{put}
 use Rattle.numbers.specs.Numbers.{numberAt, bytesOf, Bytes}
+use Rattle.group.specs.Sizes.{longestRecord}
 use Rattle.group.specs.Entries.{entry, entryAt, entryBytes, entriesBelow, tableBytes}
 use Rattle.group.specs.Coded.{Word}
 use Rattle.numbers.proofs.Stores.{put-split}
@@ -102,6 +103,13 @@ pub small-entries : (s : List ℕ) (top n : ℕ) → Bytes s → Small (entriesB
 unfolding entriesBelow entryAt
 small-entries s top zero b = tt
 small-entries s top (suc n) b = (number-small 3 s (top - 4 + 1) b, small-entries s (top - 4) n b)
+
+-- "A record is 1 to 16,777,215 bytes": no count of three bytes is longer.
+pub count-longest : (s : List ℕ) (at : ℕ) → Bytes s → entryAt s at .count ≤ longestRecord
+unfolding entryAt
+count-longest s at b =
+    let small : numberAt 3 s (at + 1) < 16777216 = number-small 3 s (at + 1) b in
+    omega arith
 
 -- The table of the entries that are read is the part of the group that they are read from.
 pub table-of-entries : (s : List ℕ) (top n : ℕ) → Bytes s → 4 * n ≤ top → top ≤ length s

@@ -2,12 +2,12 @@
 -- Assumes nothing.
 use mathlib.Core.Path.{_≡_}
 use mathlib.Core.Bool.{true, false, not, _&&_}
-use Prim.Native.Nat.{ℕ, _≤_}
+use Prim.Native.Nat.{ℕ, _-_, _≤_}
 use native.Mathlib.Omega.{arith}
 use borrow.Author.Tests.{not-false, eqb-true}
 use Rattle.group.specs.declared.Phase.{Phase}
 use Rattle.group.specs.declared.Phase.the-variants.{Free, Inside, Owed}
-use Rattle.group.specs.Sizes.{sizeKept, numberKept}
+use Rattle.group.specs.Sizes.{longestRecord, sizeKept, numberKept}
 use Rattle.group.specs.State.{nextKept, sumKept, runSound, startRefusal}
 use Rattle.numbers.proofs.Tests.{both, and, within, is-within, passed}
 
@@ -34,10 +34,10 @@ sound-of-run size next phase sum r =
     and (is-within (r .least) (r .most)) (and (is-within (r .some) (r .number)) (r .kept))
 
 -- A sum that is kept has room in 24 bits, whatever the phase.
-pub sum-small : (phase : Phase) (sum : ℕ) → sumKept phase sum ≡ true → sum ≤ 16777215
+pub sum-small : (phase : Phase) (sum : ℕ) → sumKept phase sum ≡ true → sum ≤ longestRecord
 sum-small Free sum e = omega (arith, eqb-true sum 0 e)
-sum-small Inside sum e = omega (arith, within 1 sum 16777214 e)
-sum-small Owed sum e = omega (arith, within 2 sum 16777215 e)
+sum-small Inside sum e = omega (arith, within 1 sum (longestRecord - 1) e)
+sum-small Owed sum e = omega (arith, within 2 sum longestRecord e)
 
 -- "Order: start 2, 3.": the first test that fails gives its number, whatever the other says.
 module _ (size first : ℕ) where

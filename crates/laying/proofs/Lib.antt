@@ -2,3 +2,5 @@
 pub mod Starts
 pub mod SignedLaws
 pub mod RoomLaws
+pub mod Closing
+pub mod Worked

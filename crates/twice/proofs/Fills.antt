@@ -2,27 +2,26 @@
 -- Assumes nothing.
 use Prim.Native.Nat.{ℕ, zero, suc, _+_, _-_, _≤_, _<_}
 use native.Mathlib.Omega.{arith}
-use mathlib.Core.List.{List, _++_, append-assoc}
+use mathlib.Core.List.{List, _++_}
 use mathlib.Core.Bool.{Bool, true, false, cond, _||_, true≢false}
 use mathlib.Core.Path.{_≡_, refl, sym, ap, _∙_, subst}
-use lib.ListN.{length, take, drop, replicate, length-replicate, length-append, length-drop}
+use lib.ListN.{length, take, drop, replicate, length-drop}
 use lib.Seq.{length-take-le}
 use Rattle.group.specs.declared.Kind.{Kind}
 use Rattle.group.specs.declared.Kind.the-variants as kind
 use Rattle.group.specs.declared.Phase.{Phase}
 use Rattle.group.specs.declared.Phase.the-variants.{Free, Inside, Owed}
 use Rattle.group.specs.Sizes.{entryOffset}
-use Rattle.numbers.specs.Store.{put}
 use Rattle.group.specs.Flags.{flagOf}
 use Rattle.group.specs.Entries.{entry, entryBytes}
-use Rattle.numbers.proofs.Stores.{length-put, put-split, put-before}
-use Rattle.group.proofs.EntryLaws.{length-entry}
+use Rattle.numbers.proofs.Stores.{length-put}
 use Rattle.laying.specs.declared.Writer.{Writer}
 use Rattle.sound.specs.State.{isFree, isInside, endsEmpty}
 use Rattle.laying.specs.Laying.{Desk, desk, layEntry, layData, layPart, moved, laySkip, zeroGap, shut, warnState, payOwed, ready}
 use Rattle.writer.specs.Calls.{Call, Done, call, finished, closed, recordAccepted, recordCall, separatorAccepted, separatorCall, endAccepted, endCall}
 use Rattle.writer.specs.Calls.Call.{aRecord, aSeparator, anEnd}
 use Rattle.laying.specs.Bounds.{span}
+use Rattle.laying.proofs.Closing.{shut-stands}
 use Rattle.sound.proofs.SoundLaws.{Sound}
 use Rattle.sound.proofs.Accepted.{Accepted, Offered, Separated, Ended, fits, record-accepted, separator-accepted, end-accepted}
 use Rattle.writer.proofs.CallLaws.{RecordedFree, recorded-free, RecordedInside, recorded-inside, SeparatorLaid, separator-laid}
@@ -37,59 +36,35 @@ record Here (c : Call) (s : Writer) (taken : ℕ) (v : Desk) : Type 0 where
   long : length (v .group) ≡ s .size
   fits : span (v .state .filled) (v .state .entries + 1) ≤ s .size
 
--- A store, and zeros from f up to it.
-zeros-to : (h : List ℕ) (f at : ℕ) (x : List ℕ) → f ≤ at → at + length x ≤ length h →
-    put (put h at x) f (replicate (at - f) 0) ≡ take f h ++ (replicate (at - f) 0 ++ (x ++ drop (at + length x) h))
-zeros-to h f at x low fit = by (replicate (at - f) 0) (length-replicate (at - f) 0)
-  where
-    by : (z : List ℕ) → length z ≡ at - f → put (put h at x) f z ≡ take f h ++ (z ++ (x ++ drop (at + length x) h))
-    by z e =
-        let place : f + length z ≡ at = omega arith in
-        let both : length (z ++ x) ≡ length z + length x = length-append z x in
-        let end : f + length (z ++ x) ≡ at + length x = omega arith in
-        ap (λ (k : ℕ). put (put h k x) f z) (sym place) ∙ put-before h f z x (omega arith)
-        ∙ put-split h f (z ++ x) (omega arith)
-        ∙ ap (λ (k : ℕ). take f h ++ (z ++ x) ++ drop k h) end
-        ∙ append-assoc (take f h) (z ++ x) (drop (at + length x) h)
-        ∙ ap (λ (l : List ℕ). take f h ++ l) (append-assoc z x (drop (at + length x) h))
-
--- The same by numbers alone.
+-- The bytes of a closed group, by numbers alone.
 filled-by : (c : Call) (size f holds entries : ℕ) (b4 : Bool) (after : Phase) (h : List ℕ) → f ≡ holds → length h ≡ size → span f (entries + 1) ≤ size → 1 ≤ entries →
     GapAfter after c (size - span f (entries + 1)) →
     Filled c size holds b4 after (entries + 1)
-    (put (put h (entryOffset size (entries + 1)) (entryBytes (entry (flagOf kind.Skip (warnOf c || b4)) (size - f)))) f (replicate (entryOffset size (entries + 1) - f) 0))
+    (take f h ++ (replicate (size - span f (entries + 1)) 0 ++ (entryBytes (entry (flagOf kind.Skip (warnOf c || b4)) (size - f)) ++ drop (entryOffset size entries) h)))
 filled-by c size f holds entries b4 after h data-bytes long room some left =
-    by (entryBytes (entry (flagOf kind.Skip (warnOf c || b4)) (size - f))) refl
-  where
-    by : (x : List ℕ) → x ≡ entryBytes (entry (flagOf kind.Skip (warnOf c || b4)) (size - f)) →
-        Filled c size holds b4 after (entries + 1) (put (put h (entryOffset size (entries + 1)) x) f (replicate (entryOffset size (entries + 1) - f) 0))
-    by x e =
-        let four : length x ≡ 4 = ap length e ∙ length-entry (entry (flagOf kind.Skip (warnOf c || b4)) (size - f)) in
-        let front : length (take f h) ≡ f = length-take-le f h (omega arith) in
-        let rest : length (drop (entryOffset size (entries + 1) + length x) h) ≡ size - (entryOffset size (entries + 1) + 4) = length-drop (entryOffset size (entries + 1) + length x) h ∙ omega arith in
-        let gaps : size - span f (entries + 1) ≡ entryOffset size (entries + 1) - f = omega arith in
-        let same : x ≡ entryBytes (entry (flagOf kind.Skip (warnOf c || b4)) (size - length (take f h))) = e ∙ ap (λ (n : ℕ). entryBytes (entry (flagOf kind.Skip (warnOf c || b4)) (size - n))) (sym front) in
-        record {
-          front = take f h;
-          gap = entryOffset size (entries + 1) - f;
-          behind = drop (entryOffset size (entries + 1) + length x) h;
-          stands =
-              zeros-to h f (entryOffset size (entries + 1)) x (omega arith) (omega arith)
-              ∙ ap (λ (y : List ℕ). take f h ++ (replicate (entryOffset size (entries + 1) - f) 0 ++ (y ++ drop (entryOffset size (entries + 1) + length x) h))) same;
-          data-bytes = front ∙ data-bytes;
-          long = omega arith;
-          table = omega arith;
-          some = omega arith;
-          left = subst (λ (n : ℕ). GapAfter after c n) gaps left;
-        }
+    let front : length (take f h) ≡ f = length-take-le f h (omega arith) in
+    let rest : length (drop (entryOffset size entries) h) ≡ size - entryOffset size entries = length-drop (entryOffset size entries) h ∙ omega arith in
+    record {
+      front = take f h;
+      gap = size - span f (entries + 1);
+      behind = drop (entryOffset size entries) h;
+      stands =
+          ap (λ (n : ℕ). take f h ++ (replicate (size - span f (entries + 1)) 0 ++ (entryBytes (entry (flagOf kind.Skip (warnOf c || b4)) (size - n)) ++ drop (entryOffset size entries) h)))
+          (sym front);
+      data-bytes = front ∙ data-bytes;
+      long = omega arith;
+      table = omega arith;
+      some = omega arith;
+      left = left;
+    }
 
 -- What a close of it leaves.
 shut-filled : {c : Call} {s : Writer} {taken : ℕ} (v : Desk) → Here c s taken v → 1 ≤ v .state .entries →
     GapAfter (v .state .phase) c (s .size - span (v .state .filled) (v .state .entries + 1)) →
     Filled c (s .size) (s .filled + taken) (s .warned) (v .state .phase) (v .state .entries + 1) (shut v .group)
-unfolding shut zeroGap laySkip layEntry
 shut-filled {c} {s} {taken} v h some left =
-    rw (h .sized, h .b4) (filled-by c (s .size) (v .state .filled) (s .filled + taken) (v .state .entries) (s .warned) (v .state .phase) (v .group) (h .holds) (h .long) (h .fits) some left)
+    rw (shut-stands v (h .long ∙ sym (h .sized)) (omega (arith, h .fits, h .sized)), h .sized, h .b4)
+    (filled-by c (s .size) (v .state .filled) (s .filled + taken) (v .state .entries) (s .warned) (v .state .phase) (v .group) (h .holds) (h .long) (h .fits) some left)
 
 closed-filled : {c : Call} {s : Writer} (g : List ℕ) (taken : ℕ) (v : Desk) → Here c s taken v → 1 ≤ v .state .entries →
     GapAfter (v .state .phase) c (s .size - span (v .state .filled) (v .state .entries + 1)) → FilledBy c (desk s g) (closed taken v .answer) (closed taken v .group)
