@@ -1,5 +1,6 @@
 -- What the theorems are made of, and the theorems.
 pub mod SmallRows
+pub mod RowBytes
 pub mod Told
 pub mod Writing
 pub mod Reading

@@ -24,9 +24,11 @@ use Rattle.layout.proofs.Returned.{none-begun}
 use Rattle.layout.proofs.Theorems.{complete, lawful, state-at-end, exchanged, only-one, returned}
 use Rattle.slices.specs.Call.{Left, answerLength}
 use Rattle.states.specs.States.{readerLength, readerOf, writerOf}
-use Rattle.c_reader.specs.Calls.{ddsReaderStart, readerLeft}
+use Rattle.c_reader.specs.Calls.{ddsReaderStart, ddsRead, readerLeft, rowsRead}
+use Rattle.c_reader.proofs.Theorems.{read-returns-zero, read-left}
 use Rattle.trip.specs.ThroughC.{callC, outcomeSeen, Loan, LentC, numbersLent, WroteC, WasEndedC, AcceptsC}
-use Rattle.trip.specs.Stated.{Written, GivesBackC, AllClosedC, AcceptedC, AcceptsOwn, AtEndC, OutOfOrderC}
+use Rattle.trip.specs.Stated.{Written, GivesBackC, AllClosedC, AcceptedC, AcceptsOwn, AtEndC, OutOfOrderC, RowsLeft}
+use Rattle.trip.proofs.RowBytes.{row-bytes}
 use Rattle.trip.proofs.Writing.{written-through, ended-rests, either-seen}
 use Rattle.trip.proofs.Reading.{slice, enough-lent, held-slice, starts-through, sound-fresh, refused-through, accepted-through, sound-end}
 use Rattle.trip.proofs.Settled.{start-lent, lent-enough, same-reading}
@@ -37,6 +39,16 @@ use Rattle.trip.proofs.Accepting.{accepts-own, split}
 pub c-goes-on : (c : Call) (state group answer : List ℕ) → callC c state group answer .refusal ≡ 0 →
     (outcomeSeen (callC c state group answer) ≡ 0) ⊎ (outcomeSeen (callC c state group answer) ≡ 1)
 c-goes-on = either-seen
+
+-- "three 32-bit numbers per entry: kind, data offset reached before this entry, count. Rows after the n-th are untouched." Of every
+-- read from C that returns 0, whatever is lent: row k is kind, data before and count of the entry at L − 32 − 4k, each in four
+-- bytes, and every byte behind row n stays.
+pub c-rows-are : (state group : List ℕ) (number n : ℕ) (rows answer : List ℕ) → ddsRead state group number n rows answer .refusal ≡ 0 →
+    RowsLeft (readerOf state .size) n group rows (rowsRead (ddsRead state group number n rows answer))
+c-rows-are state group number n rows answer z =
+    let a = read-returns-zero state group number n rows answer .0 z in
+    let r = row-bytes (readerOf state) (a .left) group number n rows _ (a .accepts) (read-left state group number n rows answer a .1) in
+    record { are = r .0; behind = r .1 }
 
 module _ (size first : ℕ) (state group : List ℕ) (run : List Image) (closed now : Account) (x : WroteC size first state group run closed now) where
   -- What was written from C is what the writer's own calls wrote, on the state that the state slice holds; and the slice is the

@@ -1,12 +1,12 @@
 -- What the theorems of this crate state: a writing from C as the writer's own, a run that is read back from C, a reading from C as
--- the reader's own, a run at a group's end, and a run out of order.
+-- the reader's own, a run at a group's end, a run out of order, and the rows of one read.
 -- Assumes nothing.
-use Prim.Native.Nat.{ℕ}
+use Prim.Native.Nat.{ℕ, _*_}
 use mathlib.Core.List.{List, [], _∷_, _++_}
 use mathlib.Core.Bool.{true}
 use mathlib.Core.Path.{_≡_}
-use lib.ListN.{length}
-use Rattle.numbers.specs.Numbers.{inBytes, field}
+use lib.ListN.{length, drop}
+use Rattle.numbers.specs.Numbers.{numbersIn, inBytes, field}
 use Rattle.group.specs.declared.Phase.the-variants.{Free}
 use Rattle.reader.specs.declared.Reader.{Reader}
 use Rattle.reader.specs.declared.ReaderStart.the-variants.{Started}
@@ -19,6 +19,7 @@ use Rattle.layout.specs.Accepting.{Accepts, lentTo}
 use Rattle.layout.specs.Reading.{itemsRead, begunRead}
 use Rattle.layout.specs.Stated.{EndsWith}
 use Rattle.layout.specs.Writing.{Account, Wrote}
+use Rattle.twice.specs.RowsAre.{RowsAre}
 use Rattle.slices.specs.Call.{left, answerLength}
 use Rattle.states.specs.States.{readerLength, readerOf, readerBytes, writerOf, writerNumbers}
 use Rattle.c_reader.specs.Calls.{ddsReaderStart, ddsRead, readerLeft}
@@ -97,3 +98,8 @@ pub record OutOfOrderC (size first : ℕ) (state answer : List ℕ) (beginning :
   pub refused : (loans : List Loan) (a : AcceptedC size first state answer beginning loans) (rows told : List ℕ) → length told ≡ answerLength →
       ddsRead (a .final) (h .bytes) (h .number) (h .entries) rows told ≡ left 5 (a .final ∷ rows ∷ []) (inBytes (5 ∷ 0 ∷ 0 ∷ 0 ∷ 0 ∷ 0 ∷ []))
   pub never : (loans : List Loan) → AcceptedC size first state answer (beginning ++ (h ∷ rest)) loans → ⊥
+
+-- What a read leaves in its row slice: n rows as the group's bytes have them, each number in four bytes; every byte behind them stays.
+pub record RowsLeft (size n : ℕ) (group old rows : List ℕ) : Type 0 where
+  pub are : RowsAre size n group (numbersIn old) (numbersIn rows)
+  pub behind : drop (12 * n) rows ≡ drop (12 * n) old
