@@ -160,7 +160,7 @@ extern "C" {
 #define DDS_BLOCKS       16u           /* blocks of a track, 0 to 15 */
 #define DDS_BLOCK_LEN    35u           /* one block */
 #define DDS_BLOCK_SW1    0u            /* even block: Area ID over 1000; odd block: 0 */
-#define DDS_BLOCK_SW2    1u            /* b8 set, Pack ID (000 in an odd block), block number */
+#define DDS_BLOCK_SW2    1u            /* b8 set; b7 to b5: Pack ID, 000 in an odd block; b4 to b1: block number */
 #define DDS_BLOCK_PARITY 2u            /* SW1 exclusive or SW2 */
 #define DDS_BLOCK_ITEMS  3u            /* three items of 8 bytes */
 #define DDS_BLOCK_CLOSE  27u           /* the close of 8 bytes */
@@ -179,7 +179,8 @@ extern "C" {
 #define DDS_LOG_FIRST 71u              /* frames of the System Area's log */
 #define DDS_LOG_LAST  95u
 
-/* ---- Volume Information: the fields, in their order. In the 72 bytes they stand from byte 3 on, between reserved zeros. */
+/* ---- Volume Information: the fields, in their order. In the 72 bytes they stand from byte 3 on, between reserved zeros.
+   Bit 8 is the top bit of a byte. */
 
 #define DDS_FIELD_LAST_READ      0u    /* last read partition */
 #define DDS_FIELD_LAST_UPDATED   1u    /* last updated partition */
