@@ -295,8 +295,8 @@ uint32_t dds_read(uint8_t *state, size_t state_len, const uint8_t *group, size_t
    data    the record, 1 to DDS_RECORD_MOST bytes; inside a record exactly the rest, DDS_STATE_REST bytes
 
    Finished: all of the offer is laid. The record is finished.
-   Closed: `taken` bytes of the offer were laid. Offer what is left, data + taken of length data_len - taken.
-   - Taken is 0: nothing of the record was laid, and the next call is offered all of it.
+   Closed: `taken` bytes of the offer were laid. Offer again what is left, data + taken of length data_len - taken.
+   - Taken is 0: nothing of it was laid, and what is left is the whole record.
    - Taken is data_len: nothing is left and nothing is offered again. The record's total is owed.
 
    So a record is written by
@@ -310,7 +310,7 @@ uint32_t dds_read(uint8_t *state, size_t state_len, const uint8_t *group, size_t
        }
 
    The trap is a loop without the break, `while (len) { .. len -= taken; }`. After "finished" taken is 0 and len stays as it was,
-   so that the record is laid again and again, and each call is accepted.
+   so that the record is laid again and again, each call accepted, until no group number remains.
 
    Of the offer only the bytes that the call takes are read: none where it is refused or closes with taken 0, all where it is
    finished, and never more than DDS_PART_MOST(L). The rest of a long record need not be in memory yet.

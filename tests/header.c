@@ -1,6 +1,6 @@
-/* The header alone, included first and twice, as C99 and as C++: its constants are document 01's numbers and the fields
-   and lengths of docs/C-INTERFACE.md, its prototypes link, and the library goes by its flags, limits and Pack IDs. Also what it
-   says of an offer: only the bytes taken are read. */
+/* The header alone, included first and twice, as C99 and as C++: its constants are the numbers of documents 01 and 02 and the
+   fields and lengths of docs/C-INTERFACE.md, its prototypes link, and the library goes by its flags, limits and Pack IDs. Also
+   what it says of an offer: only the bytes taken are read. */
 
 #define _DEFAULT_SOURCE /* mmap */
 
