@@ -286,7 +286,7 @@ uint32_t dds_read(uint8_t *state, size_t state_len, const uint8_t *group, size_t
    next call. Number, entries and taken are 0 in the answer, taken too where the whole offer was laid.
    DDS_OUTCOME_CLOSED: the group is complete but for its last 32 bytes, with a skip last and zeros in the gap. Put it away with
    the answer's number and entry count, and hand a buffer of L bytes to the next call. What is left to do then stands at each
-   call. No call closes an empty group, so offering again always gets on.
+   call. Offering again always gets on: no call closes an empty group.
    A refused call leaves state and group as they were, b4 included.
 
    A total that is owed is laid first by the next accepted call, whichever it is. */
@@ -310,7 +310,7 @@ uint32_t dds_read(uint8_t *state, size_t state_len, const uint8_t *group, size_t
        }
 
    The trap is a loop without the break, `while (len) { .. len -= taken; }`. After "finished" taken is 0 and len stays as it was,
-   so that the record is laid again and again, each call accepted, until no group number remains.
+   so that the record is laid again and again. Each call is accepted, and it may go on until no group number remains.
 
    Of the offer only the bytes that the call takes are read: none where it is refused or closes with taken 0, all where it is
    finished, and never more than DDS_PART_MOST(L). The rest of a long record need not be in memory yet.
@@ -329,7 +329,7 @@ uint32_t dds_record(uint8_t *state, size_t state_len, uint8_t *group, size_t gro
    value   DDS_SEPARATOR_1 or DDS_SEPARATOR_2, which are 0 and 1
 
    Finished: it is laid.
-   Closed: there was no room for it and it was not laid. Offer it again. Taken is 0.
+   Closed: there was no room for it. It was not laid. Offer it again. Taken is 0.
    Refusals in order: 1, 4, 14, 17, 18. */
 uint32_t dds_separator(uint8_t *state, size_t state_len, uint8_t *group, size_t group_len, uint32_t value,
                        uint32_t warn, uint8_t *answer, size_t answer_len);
