@@ -9,26 +9,21 @@
 #include "dds.h"
 
 #define SIZE DDS_SIZE_STANDARD
-#define PART (SIZE - 40)          /* data bytes of a group that holds one part and its skip */
-#define ROWS 8                    /* more entries than any group here has */
+#define SLOTS 12u                 /* the card has place for so many groups */
+#define PART DDS_PART_MOST(SIZE)  /* data bytes of a group that holds one part and its skip */
 
 /* A slot of the card: a closed group, with the two numbers that the firmware keeps in the last 32 bytes of the image. */
 typedef struct { uint32_t number, entries; uint8_t image[SIZE]; } slot;
-typedef struct { slot slots[12]; uint32_t used; } card;
+typedef struct { slot slots[SLOTS]; uint32_t used; } card;
 
 typedef struct { uint8_t state[DDS_WRITER_LEN], answer[DDS_ANSWER_LEN], group[SIZE]; card *card; } writer;
 typedef struct {
-    uint8_t state[DDS_READER_LEN], answer[DDS_ANSWER_LEN], rows[ROWS * DDS_ROW_LEN];
+    uint8_t state[DDS_READER_LEN], answer[DDS_ANSWER_LEN];
+    uint8_t rows[DDS_ROWS_LEN(SIZE)]; /* enough for every group */
     uint8_t *bytes;               /* the record, as far as it has been read */
     uint32_t length, most;        /* its bytes so far, and how many there is place for */
     uint32_t total;               /* its total, once that has been read */
 } reader;
-
-static uint32_t number(const uint8_t *slice, uint32_t field)
-{
-    const uint8_t *p = slice + field;
-    return (uint32_t)p[0] << 24 | (uint32_t)p[1] << 16 | (uint32_t)p[2] << 8 | (uint32_t)p[3];
-}
 
 /* ends the program unless what was just said is so */
 static void must(int so, const char *otherwise)
@@ -50,10 +45,12 @@ static void start_writer(writer *w, card *c)
 /* Puts the group away if the call closed it. Returns whether it did. */
 static int put_away(writer *w)
 {
-    slot *s = &w->card->slots[w->card->used];
-    if (number(w->answer, DDS_ANSWER_OUTCOME) != DDS_OUTCOME_CLOSED) return 0;
-    s->number = number(w->answer, DDS_ANSWER_NUMBER);
-    s->entries = number(w->answer, DDS_ANSWER_ENTRIES);
+    slot *s;
+    if (dds_number(w->answer, DDS_ANSWER_OUTCOME) != DDS_OUTCOME_CLOSED) return 0;
+    must(w->card->used < SLOTS, "the card has place");
+    s = &w->card->slots[w->card->used];
+    s->number = dds_number(w->answer, DDS_ANSWER_NUMBER);
+    s->entries = dds_number(w->answer, DDS_ANSWER_ENTRIES);
     memcpy(s->image, w->group, SIZE);
     w->card->used++;
     return 1;
@@ -66,8 +63,8 @@ static uint32_t write_record(writer *w, const uint8_t *data, size_t length)
         uint32_t refusal = dds_record(w->state, DDS_WRITER_LEN, w->group, SIZE, data, length, 0, w->answer, DDS_ANSWER_LEN);
         if (refusal != DDS_ACCEPTED) return refusal;
         if (!put_away(w)) return DDS_ACCEPTED;
-        data += number(w->answer, DDS_ANSWER_TAKEN);
-        length -= number(w->answer, DDS_ANSWER_TAKEN);
+        data += dds_number(w->answer, DDS_ANSWER_TAKEN);
+        length -= dds_number(w->answer, DDS_ANSWER_TAKEN);
     }
     return DDS_ACCEPTED;          /* the last part closed its group: its total is owed, and the next call lays it */
 }
@@ -107,11 +104,11 @@ static uint32_t read_group(reader *r, const slot *s)
     if (refusal != DDS_ACCEPTED) return refusal;
     for (k = 0; k < s->entries; k++) {
         const uint8_t *row = r->rows + k * DDS_ROW_LEN;
-        uint32_t count = number(row, DDS_ROW_COUNT);
-        switch (number(row, DDS_ROW_KIND)) {
+        uint32_t count = dds_number(row, DDS_ROW_COUNT);
+        switch (dds_number(row, DDS_ROW_KIND)) {
         case DDS_KIND_START: case DDS_KIND_MIDDLE: case DDS_KIND_LAST: case DDS_KIND_ENTIRE:
             must(count <= r->most - r->length, "the record is as long as it should be");
-            memcpy(r->bytes + r->length, s->image + number(row, DDS_ROW_OFFSET), count);
+            memcpy(r->bytes + r->length, s->image + dds_number(row, DDS_ROW_OFFSET), count);
             r->length += count;
             break;
         case DDS_KIND_TOTAL:
@@ -122,8 +119,8 @@ static uint32_t read_group(reader *r, const slot *s)
     return DDS_ACCEPTED;
 }
 
-static uint32_t place(const reader *r) { return number(r->answer, DDS_ANSWER_PLACE); }
-static uint32_t phase(const reader *r) { return number(r->state, DDS_STATE_PHASE); }
+static uint32_t place(const reader *r) { return dds_number(r->answer, DDS_ANSWER_PLACE); }
+static uint32_t phase(const reader *r) { return dds_number(r->state, DDS_STATE_PHASE); }
 
 /* ---- The mill's recipes: one line of forty bytes for each */
 
@@ -140,8 +137,8 @@ static void write_down_recipes(void)
     uint32_t i;
     char line[64];
     for (i = 0; i < LINES; i++) {
-        snprintf(line, sizeof line, "mix %05u wheat %03u barley %03u soya %03u\n", (unsigned)(i + 1) % 100000, (unsigned)(i * 7 % 900 + 100),
-                 (unsigned)(i * 11 % 800 + 50) % 1000, (unsigned)(i * 3 % 90 + 10));
+        snprintf(line, sizeof line, "mix %05u wheat %03u barley %03u soya %03u\n", (unsigned)(i + 1) % 100000,
+                 (unsigned)(i * 7 % 900 + 100), (unsigned)(i * 11 % 800 + 50) % 1000, (unsigned)(i * 3 % 90 + 10));
         memcpy(recipes + 40u * i, line, 40);
     }
 }
@@ -155,9 +152,11 @@ static void recipe_library(void)
     printf("The recipe library has %u recipes, %u bytes.\n", (unsigned)LINES, (unsigned)LENGTH);
     start_writer(&w, &library);
     must(write_record(&w, recipes, LENGTH) == DDS_ACCEPTED, "the library is written as one record");
-    must(write_separator(&w, 0) == DDS_ACCEPTED && end_run(&w) == DDS_ACCEPTED, "a separator follows and the run ends");
+    must(write_separator(&w, DDS_SEPARATOR_1) == DDS_ACCEPTED, "a separator follows");
+    must(end_run(&w) == DDS_ACCEPTED, "the run ends");
     must(library.used == 11, "it takes eleven groups");
-    printf("Written as one record, it fills groups %u to %u.\n", (unsigned)library.slots[0].number, (unsigned)library.slots[10].number);
+    printf("Written as one record, it fills groups %u to %u.\n", (unsigned)library.slots[0].number,
+           (unsigned)library.slots[10].number);
     start_reader(&r, found, LENGTH);
     for (g = 0; g < 11; g++) must(read_group(&r, &library.slots[g]) == DDS_ACCEPTED, "each group is accepted");
     must(phase(&r) == DDS_PHASE_FREE && r.length == LENGTH && r.total == LENGTH, "the record is finished");
@@ -173,11 +172,11 @@ static int total_agrees(card *c)
         for (k = 1; k <= c->slots[g].entries; k++) {
             const uint8_t *e = entry(&c->slots[g], k);
             uint32_t count = (uint32_t)e[1] << 16 | (uint32_t)e[2] << 8 | e[3];
-            if (e[0] == 0x42 || e[0] == 0x40 || e[0] == 0x60) {
+            if (e[0] == DDS_FLAG_START || e[0] == DDS_FLAG_MIDDLE || e[0] == DDS_FLAG_LAST) {
                 memcpy(found + sum, c->slots[g].image, count);
                 sum += count;
             }
-            if (e[0] == 0x01) total = count;
+            if (e[0] == DDS_FLAG_TOTAL) total = count;
         }
     return sum == total;
 }
@@ -197,12 +196,13 @@ static void groups_exchanged(void)
     for (i = 0; i < LINES; i++) wrong += memcmp(recipes + 40u * i, found + 40u * i, 40) != 0;
     must(wrong > 0, "recipes are wrong");
     printf("Trouble 1. Groups 6 and 7 change places. Both hold a middle of %u bytes.\n", (unsigned)PART);
-    printf("  The parts still add up to the total of %u. A tool that trusts it gets %u recipes wrong.\n", (unsigned)LENGTH, (unsigned)wrong);
+    printf("  The parts still add up to the total of %u. A tool that trusts it gets %u recipes wrong.\n", (unsigned)LENGTH,
+           (unsigned)wrong);
     start_reader(&r, found, LENGTH);
     for (g = 0; g < 5; g++) must(read_group(&r, &other.slots[g]) == DDS_ACCEPTED, "groups 1 to 5 are accepted");
     must(read_group(&r, six) == DDS_REFUSED_NUMBER, "the sixth group is refused 5");
     printf("  dds refuses the sixth group handed in, with %u: number %u is not the next, %u is.\n", (unsigned)DDS_REFUSED_NUMBER,
-           (unsigned)six->number, (unsigned)number(r.state, DDS_STATE_NEXT));
+           (unsigned)six->number, (unsigned)dds_number(r.state, DDS_STATE_NEXT));
     must(read_group(&r, seven) == DDS_ACCEPTED && read_group(&r, six) == DDS_ACCEPTED, "in order they are accepted");
     for (g = 7; g < 11; g++) must(read_group(&r, &other.slots[g]) == DDS_ACCEPTED, "and so is the rest");
     must(memcmp(recipes, found, LENGTH) == 0, "and every recipe is right again");
@@ -247,14 +247,15 @@ static void total_not_lost(void)
     printf("Trouble 3. A last part just fits, and its total no longer does. Some writers lost it.\n");
     start_writer(&w, &other);
     must(write_record(&w, recipes, length) == DDS_ACCEPTED, "the record is written");
-    must(other.used == 2 && number(w.state, DDS_STATE_PHASE) == DDS_PHASE_OWED, "two groups are closed and the total is owed");
+    must(other.used == 2 && dds_number(w.state, DDS_STATE_PHASE) == DDS_PHASE_OWED, "two groups are closed, the total is owed");
     must(end_run(&w) == DDS_ACCEPTED && other.used == 3, "the end closes a third group");
     start_reader(&r, found, LENGTH);
     must(read_group(&r, &other.slots[0]) == DDS_ACCEPTED && read_group(&r, &other.slots[1]) == DDS_ACCEPTED, "both are accepted");
     must(phase(&r) == DDS_PHASE_OWED && r.length == length && r.total == 0, "the reader is told that a total is owed");
     printf("  Group 2 ends with the last of %u bytes, and the total is owed.\n", (unsigned)length);
     must(read_group(&r, &other.slots[2]) == DDS_ACCEPTED, "the third is accepted");
-    must(number(r.rows, DDS_ROW_KIND) == DDS_KIND_TOTAL && r.total == length && phase(&r) == DDS_PHASE_FREE, "it begins with the total");
+    must(dds_number(r.rows, DDS_ROW_KIND) == DDS_KIND_TOTAL && r.total == length, "it begins with the total");
+    must(phase(&r) == DDS_PHASE_FREE, "the record is finished");
     must(memcmp(recipes, found, length) == 0, "and the record is whole");
     printf("  Group 3 begins with it: %u. The record is finished and whole.\n", (unsigned)r.total);
 }

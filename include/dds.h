@@ -1,9 +1,10 @@
 /* dds.h: writing and reading the Basic Groups and the Sub Data Blocks of DDS tapes, their third code, and an AIT loader's
-   memory, called from C.
+   memory, called from C. This is the reference of every call; docs/C-INTERFACE.md says what is about more than one.
 
    Eighteen calls on plain numbers and lent byte slices. A slice is a pointer and a length in bytes. Every number inside a
-   slice is four bytes, most significant first. Each call returns the refusal number, DDS_ACCEPTED if it was accepted.
-   The library keeps nothing between calls, allocates nothing and calls nothing but memset and memcpy.
+   slice is four bytes, most significant first; dds_number below reads one. Each call returns the refusal number,
+   DDS_ACCEPTED if it was accepted. The library keeps nothing between calls, allocates nothing and calls nothing but memset
+   and memcpy.
 
    Slices
    - A slice of length 0 may come with a null pointer or with any other.
@@ -12,6 +13,7 @@
    - A state or answer slice of another length than its own is DDS_REFUSED_STATE, before everything else, at a start too,
      and nothing at all is written. Every other refusal writes the answer slice and nothing else.
    - Slices marked const are never written and may stand in read-only memory.
+   - No slice need be aligned, and no length or number is cut: a group of 2^32 + 64 bytes is not a group of 64.
 
    The library holds no buffer: the caller keeps the state bytes and the group buffer from call to call, and may keep as
    many states as it likes, one for each run. */
@@ -26,6 +28,16 @@
 extern "C" {
 #endif
 
+/* ---- Version
+
+   How many change requests have landed, then the last of them, as one decimal number: 3, and 2026-11. Each landing makes it
+   greater, so it compares, also where a request of a lower number lands later. Header and archive of one build belong together.
+
+   States are not kept across versions: in another a state may have other fields or another length. A run is ended before the
+   change, or started anew after it. */
+
+#define DDS_VERSION 3202611u
+
 /* ---- Sizes */
 
 #define DDS_SIZE_LEAST      64u        /* least group size L */
@@ -35,6 +47,15 @@ extern "C" {
 #define DDS_RECORD_MOST     16777215u  /* longest record in bytes; the shortest is 1 */
 #define DDS_INFORMATION_LEN 32u        /* last bytes of a group, the firmware's own: neither read nor written here */
 #define DDS_ENTRY_LEN       4u         /* an entry: a flag byte, then a count of three bytes */
+
+/* The index is what a group holds beside data: its entries and the last 32 bytes. A part that fills a group costs an index of 40
+   bytes: the part's entry, the skip and the 32. */
+#define DDS_PART_INDEX_LEN  40u
+
+/* of a group of L bytes, L at least 64; where L is a constant these are too, and can size an array */
+#define DDS_PART_MOST(L)    ((L) - DDS_PART_INDEX_LEN)                     /* most bytes of one part, or of an entire record */
+#define DDS_ENTRIES_MOST(L) (((L) - DDS_INFORMATION_LEN) / DDS_ENTRY_LEN)  /* most entries n: 32 + 4n is at most L */
+#define DDS_ROWS_LEN(L)     (DDS_ROW_LEN * DDS_ENTRIES_MOST(L))            /* rows that are enough for every group */
 
 /* ---- Lengths of the lent slices */
 
@@ -73,7 +94,7 @@ extern "C" {
 /* ---- Fields of the answer */
 
 #define DDS_ANSWER_REFUSAL 0u          /* the number the call returns too */
-#define DDS_ANSWER_PLACE   4u          /* the entry, from 1, for refusals 8 to 13; the block for 31 to 34; the column for 43; else 0 */
+#define DDS_ANSWER_PLACE   4u          /* refusals 8 to 13: the entry, from 1; 31 to 34: the block; 43: the column; else 0 */
 #define DDS_ANSWER_OUTCOME 8u          /* DDS_OUTCOME_.. */
 #define DDS_ANSWER_NUMBER  12u         /* at a close: the closed group's number */
 #define DDS_ANSWER_ENTRIES 16u         /* at a close: its entry count, an owed total and the skip counted */
@@ -109,18 +130,45 @@ extern "C" {
 #define DDS_KIND_ENTIRE    6u          /* count: bytes of the record */
 #define DDS_KIND_SKIP      7u          /* count: L less all data bytes before it */
 
+#define DDS_SEPARATOR_1 0u             /* a separator's count, and the `value` of dds_separator */
+#define DDS_SEPARATOR_2 1u
+
+/* ---- A group, L bytes: user data from byte 0 on, in entry order and without holes; entry k, from 1, in the four bytes from
+   L - 32 - 4k on, a flag byte and then the count; the last 32 bytes, the firmware's. Between data and entries is the gap. */
+
+#define DDS_FLAG_TOTAL     0x01u       /* flag bytes with b4 clear .. */
+#define DDS_FLAG_SEPARATOR 0x07u
+#define DDS_FLAG_MIDDLE    0x40u
+#define DDS_FLAG_START     0x42u
+#define DDS_FLAG_LAST      0x60u
+#define DDS_FLAG_ENTIRE    0x63u
+#define DDS_FLAG_SKIP      0x80u
+
+#define DDS_FLAG_B4        0x08u       /* .. bit b4, which marks entries after the early warning point .. */
+
+#define DDS_FLAG_TOTAL_B4     0x09u    /* .. and the flag bytes with b4 set; no other flag is valid */
+#define DDS_FLAG_SEPARATOR_B4 0x0Fu
+#define DDS_FLAG_MIDDLE_B4    0x48u
+#define DDS_FLAG_START_B4     0x4Au
+#define DDS_FLAG_LAST_B4      0x68u
+#define DDS_FLAG_ENTIRE_B4    0x6Bu
+#define DDS_FLAG_SKIP_B4      0x88u
+
 /* ---- A track: block b at byte 35b; place 4b + p at byte 8(4b + p) of the items, and its number at byte 4(4b + p) of the
    numbers. p is 0, 1, 2 for a block's three items and 3 for its close. */
 
 #define DDS_BLOCKS       16u           /* blocks of a track, 0 to 15 */
 #define DDS_BLOCK_LEN    35u           /* one block */
 #define DDS_BLOCK_SW1    0u            /* even block: Area ID over 1000; odd block: 0 */
-#define DDS_BLOCK_SW2    1u            /* b8 set, Pack ID (000 in an odd block), block number */
+#define DDS_BLOCK_SW2    1u            /* b8 set; b7 to b5: Pack ID, 000 in an odd block; b4 to b1: block number */
 #define DDS_BLOCK_PARITY 2u            /* SW1 exclusive or SW2 */
 #define DDS_BLOCK_ITEMS  3u            /* three items of 8 bytes */
 #define DDS_BLOCK_CLOSE  27u           /* the close of 8 bytes */
 #define DDS_PLACES       64u           /* places of a track */
 #define DDS_ITEM_LEN     8u            /* what stands at one place */
+
+#define DDS_PACK_ID_6 6u               /* six Pack Items in an even block and the odd one after it: the even closes in zeros */
+#define DDS_PACK_ID_7 7u               /* seven: the even closes in Pack Item 3 or 4 */
 
 #define DDS_AREA_REFERENCE 1u          /* Area IDs with bit X clear, Partition 1 of a tape with two partitions .. */
 #define DDS_AREA_SYSTEM    2u
@@ -131,7 +179,8 @@ extern "C" {
 #define DDS_LOG_FIRST 71u              /* frames of the System Area's log */
 #define DDS_LOG_LAST  95u
 
-/* ---- Volume Information: the fields, in their order. In the 72 bytes they stand from byte 3 on, between reserved zeros. */
+/* ---- Volume Information: the fields, in their order. In the 72 bytes they stand from byte 3 on, between reserved zeros.
+   Bit 8 is the top bit of a byte. */
 
 #define DDS_FIELD_LAST_READ      0u    /* last read partition */
 #define DDS_FIELD_LAST_UPDATED   1u    /* last updated partition */
@@ -176,10 +225,25 @@ extern "C" {
 #define DDS_REFUSED_THICKNESS     62u  /* thickness 10 or 11: make, read of a volume */
 #define DDS_REFUSED_FLAGS         63u  /* bit 5 clear, or one of bits 6 to 8 set: make, read of a volume */
 
+/* ---- A number in a slice: the four bytes from `field` on, most significant first. dds_number(answer, DDS_ANSWER_TAKEN) */
+
+static inline uint32_t dds_number(const uint8_t *slice, size_t field)
+{
+    uint32_t number = slice[field];
+    number = number << 8 | slice[field + 1];
+    number = number << 8 | slice[field + 2];
+    return number << 8 | slice[field + 3];
+}
+
 /* ---- Starting
 
-   Fills the state for groups of `size` bytes, the first of which is numbered `first`. What the state slice held does
-   not matter. A refused start leaves it.
+   size    group size L, DDS_SIZE_LEAST to DDS_SIZE_STANDARD
+   first   the number of the run's first group, DDS_NUMBER_LEAST to DDS_NUMBER_MOST
+   state   DDS_READER_LEN or DDS_WRITER_LEN bytes; what they hold does not matter
+   answer  DDS_ANSWER_LEN bytes, as in every call
+
+   Accepted: the state is filled; it is free, with nothing read or laid. The answer is zeros.
+   Refused: the state slice stays as it was.
    Refusals in order: 1 by length, 2, 3. */
 
 uint32_t dds_reader_start(uint32_t size, uint32_t first, uint8_t *state, size_t state_len, uint8_t *answer,
@@ -190,81 +254,154 @@ uint32_t dds_writer_start(uint32_t size, uint32_t first, uint8_t *state, size_t 
 
 /* ---- Reading
 
-   Reads one group, given its number and entry count. Accepted: the first 12 * entries bytes of rows are filled, the
-   bytes after them stay, and the state moves on to the next group. Refused: state and rows stay as they were; the
-   answer says the number and, for 8 to 13, the entry. The same state may then be tried on another group.
-   Refusals in order: 1, 4, 5, 6, 7, then entry by entry 8 to 13. */
+   Reads one group.
+   state    DDS_READER_LEN bytes, as the start or the last read left them
+   group    L bytes; of them only the table of entries is looked at, not the data, the gap or the last 32 bytes
+   number   the group's number and
+   entries  its entry count, as the firmware found them in the last 32 bytes
+   rows     DDS_ROW_LEN bytes for each entry at least; DDS_ROWS_LEN(L) are enough for every group
+
+   Accepted: the first DDS_ROW_LEN * entries bytes of rows are filled, the bytes after them stay, and the state moves on to the
+   next group. The answer is zeros. Rows of kinds 3 to 6 say where bytes of a record stand: `count` bytes of the group from
+   `offset` on.
+   Refused: state and rows stay as they were; the answer says the number and, for 8 to 13, the entry. The same state may then be
+   tried on another group.
+   Refusals in order: 1, 4, 5, 6, 7; then entry by entry from 1, and at one entry 8 to 13. The first entry that breaks a rule
+   is the one told.
+
+   At the run's end look at the phase. DDS_PHASE_FREE: every record is finished. DDS_PHASE_INSIDE or DDS_PHASE_OWED: the run ends
+   in a record that is broken off, of which DDS_STATE_SUM bytes were read. No call says so by itself. */
 
 uint32_t dds_read(uint8_t *state, size_t state_len, const uint8_t *group, size_t group_len, uint32_t number,
                   uint32_t entries, uint8_t *rows, size_t rows_len, uint8_t *answer, size_t answer_len);
 
 /* ---- Writing
 
-   `warn` is 1 where the early warning point has been passed: b4 is then set in every entry laid by this call and by
-   later ones up to the close. Say it again for the next group. `warn` is 0 otherwise; any other value is refusal 1.
+   state   DDS_WRITER_LEN bytes, as the start or the last call left them
+   group   the open group, L bytes. Until its first entry is laid any buffer will do, and what it holds does not matter
+   warn    1 where the early warning point has been passed: b4 is then set in every entry laid by this call and by later ones up
+           to the close. The close clears it: say it again for the next group. 0 otherwise; any other value is refusal 1
 
-   After DDS_OUTCOME_FINISHED the item is laid and the group stays open: hand the same buffer to the next call.
-   After DDS_OUTCOME_CLOSED the group is complete but for its last 32 bytes. Put it away with the answer's number and
-   entry count, and hand a buffer of L bytes to the next call; what it holds does not matter. Then:
-   - dds_record: offer again what is left, data + taken of length data_len - taken. Where taken is 0 that is the whole
-     record. Where taken is data_len nothing is left and nothing is offered again; the record's total is owed and the
-     next call lays it.
-   - dds_separator: it was not laid. Offer it again.
-   - dds_end: nothing more is to be done.
-   Offering again always gets on: no call closes an empty group.
-   A refused call leaves state and group as they were, b4 included. */
+   DDS_OUTCOME_FINISHED: the work is done and the group stays open, or an end had nothing to close. Hand the same buffer to the
+   next call. Number, entries and taken are 0 in the answer, taken too where the whole offer was laid.
+   DDS_OUTCOME_CLOSED: the group is complete but for its last 32 bytes, with a skip last and zeros in the gap. Put it away with
+   the answer's number and entry count, and hand a buffer of L bytes to the next call. What is left to do then stands at each
+   call. Offering again always gets on: no call closes an empty group.
+   A refused call leaves state and group as they were, b4 included.
 
-/* Lays the record, or the rest of the open one. Inside a record the caller offers exactly the rest.
+   A total that is owed is laid first by the next accepted call, whichever it is. */
+
+/* Lays the record, or the rest of the open one.
+   data    the record, 1 to DDS_RECORD_MOST bytes; inside a record exactly the rest, DDS_STATE_REST bytes
+
+   Finished: all of the offer is laid. The record is finished.
+   Closed: `taken` bytes of the offer were laid. Offer again what is left, data + taken of length data_len - taken.
+   - Taken is 0: nothing of it was laid, and what is left is the whole record.
+   - Taken is data_len: nothing is left and nothing is offered again. The record's total is owed.
+
+   So a record is written by
+
+       while (len > 0) {
+           if (dds_record(state, DDS_WRITER_LEN, group, L, data, len, warn, answer, DDS_ANSWER_LEN) != DDS_ACCEPTED) return;
+           if (dds_number(answer, DDS_ANSWER_OUTCOME) == DDS_OUTCOME_FINISHED) break;
+           put_away(group, dds_number(answer, DDS_ANSWER_NUMBER), dds_number(answer, DDS_ANSWER_ENTRIES));
+           data += dds_number(answer, DDS_ANSWER_TAKEN);
+           len -= dds_number(answer, DDS_ANSWER_TAKEN);
+       }
+
+   The trap is a loop without the break, `while (len) { .. len -= taken; }`. After "finished" taken is 0 and len stays as it was,
+   so that the record is laid again and again. Each call is accepted, and it may go on until no group number remains.
+
+   Of the offer only the bytes that the call takes are read: none where it is refused or closes with taken 0, all where it is
+   finished, and never more than DDS_PART_MOST(L). The rest of a long record need not be in memory yet.
+
+   Giving up a record of which something is laid: return to a mark from before it, the state and the open group as they were
+   then, as long as every group closed since can be taken back; their numbers are given again. Otherwise write nothing more to
+   this run. Separator and end are refused with 17 now, and a reader accepts the groups that were put away and ends inside: the
+   record is broken off. What a writer started anew puts behind them is another run. The reader that is inside refuses its first
+   group with 5, or with 10 at entry 1 where the number is the next; a reader started at that number reads it.
+
    Refusals in order: 1, 4, 14, 15, 16. */
 uint32_t dds_record(uint8_t *state, size_t state_len, uint8_t *group, size_t group_len, const uint8_t *data,
                     size_t data_len, uint32_t warn, uint8_t *answer, size_t answer_len);
 
-/* Lays Separator 1 (`value` 0) or Separator 2 (`value` 1).
+/* Lays a separator.
+   value   DDS_SEPARATOR_1 or DDS_SEPARATOR_2, which are 0 and 1
+
+   Finished: it is laid.
+   Closed: there was no room for it. It was not laid. Offer it again. Taken is 0.
    Refusals in order: 1, 4, 14, 17, 18. */
 uint32_t dds_separator(uint8_t *state, size_t state_len, uint8_t *group, size_t group_len, uint32_t value,
                        uint32_t warn, uint8_t *answer, size_t answer_len);
 
-/* Closes the open group, an owed total laid first. With no entry laid and no total owed it closes nothing and leaves
-   everything as it was.
+/* Closes the open group. It is a flush: one may write on, into the next group, and a run may have many ends. A run's last call is
+   an end. Without it the last group stays open, and a total that is owed stays out: its record then counts as broken off.
+
+   Finished: there was no entry in the group and no total owed. Nothing is closed, and everything stays as it was.
+   Closed: all that was written stands in closed groups. Taken is 0.
    Refusals in order: 1, 4, 17, 14 (only if a total is owed). */
 uint32_t dds_end(uint8_t *state, size_t state_len, uint8_t *group, size_t group_len, uint32_t warn, uint8_t *answer,
                  size_t answer_len);
 
 /* ---- Sub Data Blocks of a track
 
-   `area` is the Area ID's four bits as a number, `frame` the track's frame number: any number, never refused. Items, closes
-   with Pack ID 7 and the C1 bytes that close odd blocks are carried and not looked at.
+   area     the Area ID's four bits as a number: DDS_AREA_REFERENCE, _SYSTEM, _DATA or _EOD, and DDS_AREA_X more where bit X is
+            set. No other is allowed, the Device Area's 0 neither
+   frame    the track's frame number: any number, never refused. Area and frame are those of the whole track
+   packs    DDS_PACKS_LEN bytes: the Pack IDs of blocks 0, 2 .. 14
+   items    DDS_ITEMS_LEN bytes: what stands at each place
+   track    DDS_TRACK_LEN bytes
+   numbers  DDS_NUMBERS_LEN bytes: the Item number of each place, 0 for every close
 
-   Make: the track is filled from the Pack IDs and the items, and the numbers with each place's Item number. With Pack ID 6 an
-   even block closes in zeros, whatever is lent at that place.
+   The four slices have these lengths and no other. Items, closes with Pack ID 7 and the C1 bytes that close odd blocks are
+   carried and not looked at. The Item numbers are those of ISO/IEC 10777, Table 3:
+
+       area            frame                even block  odd block
+       Data            any                  1 2 3       1 2 4
+       System          71 to 95, the log    5 7 3       6 8 4
+       System          any other            3 3 3       4 4 4
+       Reference, EOD  any                  3 3 3       4 4 4
+
+   Accepted, both answer zeros. */
+
+/* Make: the whole track is filled from the Pack IDs and the items, and the numbers. With Pack ID 6 an even block closes in zeros,
+   whatever is lent at that place. Area 1100, Pack ID 6, block 0: the header is C8 E0 28.
    Refusals in order: 1 by the answer's length, 30, 32 (place 0), 33 at the first even block whose Pack ID is neither 6 nor 7. */
 uint32_t dds_subdata_make(uint32_t area, uint32_t frame, const uint8_t *packs, size_t packs_len, const uint8_t *items,
                           size_t items_len, uint8_t *track, size_t track_len, uint8_t *numbers, size_t numbers_len,
                           uint8_t *answer, size_t answer_len);
 
-/* Read: the Pack IDs, the items and the numbers are filled from a track whose every block is as it should be, in this area.
-   Refusals in order: 1 by the answer's length, 30, then block by block from 0: 31, 32, 33, 34. */
+/* Read: the Pack IDs, the items and the numbers are filled from a track whose every block is as it should be, in this area. What
+   was made is given back; the closes with Pack ID 6 are zeros.
+   Refusals in order: 1 by the answer's length, 30, then block by block from 0: 31, 32, 33, 34. An area that is not allowed is
+   32 at block 0, or 31 where the parity there is wrong too. */
 uint32_t dds_subdata_read(uint32_t area, uint32_t frame, const uint8_t *track, size_t track_len, uint8_t *packs,
                           size_t packs_len, uint8_t *items, size_t items_len, uint8_t *numbers, size_t numbers_len,
                           uint8_t *answer, size_t answer_len);
 
 /* ---- The third code
 
-   46 rows of `row_len` bytes in one buffer, any 46 tracks that stand together: rows 0 to 43 are data, 44 and 45 check bytes.
-   Column c is the bytes c of all rows, from 0. It keeps both rules where its 46 bytes add to zero, and its bytes of rows i
-   times alpha^(45 - i) too, in the field of bytes modulo x^8 + x^4 + x^3 + x^2 + 1 with alpha = 2.
+   row_len  bytes of a row, 1 or more
+   rows     DDS_THIRD_ROWS rows in one buffer, row i from i * row_len on: any 46 tracks that stand together. Rows 0 to 43 are
+            data, 44 and 45 check bytes. Rows 2f and 2f + 1 are the two tracks of frame f, 44 and 45 those of the check frame
 
-   Make: rows 44 and 45 are written, whatever they held, so that every column keeps both rules.
+   Column c is the bytes c of all rows, from 0. It keeps both rules where its 46 bytes add to zero, and its bytes of rows i
+   times alpha^(45 - i) too, in the field of bytes modulo x^8 + x^4 + x^3 + x^2 + 1 with alpha = 2. To add is to take the
+   exclusive or. A single byte 01 in row 43 has the check bytes 03 and 02. Accepted, all but the check answer zeros. */
+
+/* Make: rows 44 and 45 are written, whatever they held, so that every column keeps both rules.
    Refusals in order: 1 by the answer's length, 40. */
 uint32_t dds_third_make(uint32_t row_len, uint8_t *rows, size_t rows_len, uint8_t *answer, size_t answer_len);
 
-/* Check: accepted, with DDS_OUTCOME_BROKEN where some column breaks a rule. Nothing but the answer is written.
+/* Check: accepted, with DDS_OUTCOME_BROKEN where some column breaks a rule and outcome 0 where none does. Nothing but the answer
+   is written.
    Refusals in order: 1 by the answer's length, 40. */
 uint32_t dds_third_check(uint32_t row_len, const uint8_t *rows, size_t rows_len, uint8_t *answer, size_t answer_len);
 
-/* Restore: the named row or rows are written, whatever they held. They are those that were written where the others are. One
-   row is restored by the first rule alone: where another byte is wrong the second need not hold after.
-   Refusals in order: 1 by the answer's length, 40, 41, 42. */
+/* Restore: the named row or rows, 0 to 45, are written, whatever they held. They are those that were written where the others
+   are. One row is restored by the first rule alone: where another byte is wrong the second need not hold after, and a check
+   tells it.
+   Refusals in order: 1 by the answer's length, 40, 41, 42 (two rows alone). */
 uint32_t dds_third_restore_one(uint32_t row_len, uint32_t row, uint8_t *rows, size_t rows_len, uint8_t *answer,
                                size_t answer_len);
 
@@ -272,30 +409,37 @@ uint32_t dds_third_restore_two(uint32_t row_len, uint32_t first, uint32_t second
                                uint8_t *answer, size_t answer_len);
 
 /* Mend: at most one byte of each column is written, so that it keeps both rules. That is right where at most one byte of the
-   column was changed. Every column is judged before a byte is written.
-   Refusals in order: 1 by the answer's length, 40, 43. */
+   column was changed; where more were, a column may be mended to what was not written, or be 43. Every column is judged before a
+   byte is written.
+   Refusals in order: 1 by the answer's length, 40, 43 with the first column that no single change mends. */
 uint32_t dds_third_mend(uint32_t row_len, uint8_t *rows, size_t rows_len, uint8_t *answer, size_t answer_len);
 
 /* ---- An AIT loader's memory
 
-   Volume Information: made from its fields and read to them. The answer's outcome is the tape's type. Length number, partitions,
-   map and flags 1 to 4 are carried and not looked at.
-   Refusals in order: 1 by the answer's length, 60, 61 (read), 62, 63. */
+   Volume Information: DDS_VOLUME_LEN bytes are made from their fields, DDS_FIELDS_LEN bytes, with zeros in every reserved byte,
+   and read to them. What was made is given back, and nothing is accepted that could not have been made. The answer's outcome is
+   the tape's type, DDS_OUTCOME_TYPE_A or DDS_OUTCOME_TYPE_B. Length number, partitions, map and flags 1 to 4 are carried and not
+   looked at.
+   Refusals in order: 1 by the answer's length, 60, 61 (read alone), 62, 63. */
 uint32_t dds_volume_make(const uint8_t *fields, size_t fields_len, uint8_t *volume, size_t volume_len, uint8_t *answer,
                          size_t answer_len);
 
 uint32_t dds_volume_read(const uint8_t *volume, size_t volume_len, uint8_t *fields, size_t fields_len, uint8_t *answer,
                          size_t answer_len);
 
-/* Tape Alert flags: `high` holds flags 1 to 32 and `low` flags 33 to 64, flags 1 and 33 in the top bit. Flag 1 is the top bit of
-   byte 0, flag 64 the lowest of byte 7. Both calls answer how many are raised, the lowest raised, and the two numbers.
+/* Tape Alert flags: `high` holds flags 1 to 32 and `low` flags 33 to 64, flags 1 and 33 in the top bit. In the DDS_ALERT_LEN
+   bytes flag 1 is the top bit of byte 0, flag 64 the lowest of byte 7. Both calls answer how many are raised, the lowest raised,
+   and the two numbers. Making writes the eight bytes; reading writes nothing but the answer.
    Refusals in order: 1 by the answer's length, 60. */
 uint32_t dds_alert_make(uint32_t high, uint32_t low, uint8_t *alert, size_t alert_len, uint8_t *answer, size_t answer_len);
 
 uint32_t dds_alert_read(const uint8_t *alert, size_t alert_len, uint8_t *answer, size_t answer_len);
 
 /* The first place where the pattern 00 B2 4D follows at least two zero bytes and a length byte follows it. Bytes of any length up
-   to 2^32 - 1 are taken; finding nothing is no refusal.
+   to 2^32 - 1 are taken.
+   DDS_OUTCOME_FOUND: the answer has the place of the pattern's 00, from 0, and that of the length byte, three behind it. To
+   search on, hand over the bytes from the length byte on.
+   DDS_OUTCOME_NONE: there is none. A pattern that ends the bytes does not count.
    Refusals in order: 1 by the answer's length, 60. */
 uint32_t dds_radio_find(const uint8_t *received, size_t received_len, uint8_t *answer, size_t answer_len);
 
