@@ -2,10 +2,10 @@
 -- Assumes nothing.
 use mathlib.Core.Path.{_≡_, refl}
 use mathlib.Core.Bool.{Bool, true, false, cond, not, _||_}
-use Prim.Native.Nat.{ℕ, _+_, _-_, _≤_}
+use Prim.Native.Nat.{ℕ, _-_, _≤_}
 use native.Mathlib.Omega.{arith}
 use borrow.Author.Tests.{eq-eqb, ne-eqb, eqb-true, eqb-false, leb-true, not-false}
-use lib.Dec.{eqb, leb}
+use lib.Dec.{eqb}
 use Rattle.group.specs.declared.Kind.{Kind}
 use Rattle.group.specs.declared.Kind.the-variants.{Total, Separator, Middle, Start, Last, Entire, Skip}
 use Rattle.group.specs.declared.Meaning.{Meaning}
@@ -13,8 +13,9 @@ use Rattle.group.specs.declared.Meaning.the-variants.{Known, Unknown}
 use Rattle.group.specs.Sizes.{longestRecord}
 use Rattle.numbers.proofs.Tests.{passed}
 use Rattle.entry.specs.declared.Cursor.{Cursor}
-use Rattle.entry.specs.Rules.{isSkip, b4Kept, followKept, countFault, partFault, roomKept, skipKept, dataFault, entryFault, orElse, sumAfter, reachedAfter}
+use Rattle.entry.specs.Rules.{isSkip, b4Kept, followKept, countFault, roomKept, skipKept, dataFault, entryFault, orElse, sumAfter, reachedAfter}
 use Rattle.entry.specs.Scan.{after}
+use Rattle.entry.proofs.Counts.{CountKept, count-kept, no-count-fault}
 use Rattle.entry.specs.Bounds.{Bounded}
 
 -- Whatever the `||` of a list's end adds, it is nothing.
@@ -24,23 +25,23 @@ or-false false = refl
 
 -- The number of an entry's fault, test by test, where its flag means a kind.
 module _ (size limit : ℕ) (last : Bool) (c : Cursor) (m : Meaning) (k : Kind) (w : Bool) (count : ℕ) (e : m ≡ Known k w) where
-  pub nine : b4Kept (c .warned) w ≡ false → 9 ≡ entryFault size limit last c m count
+  pub dropped : b4Kept (c .warned) w ≡ false → 9 ≡ entryFault size limit last c m count
   unfolding entryFault
-  nine h = rw (e, h)
+  dropped h = rw (e, h)
 
-  pub ten : b4Kept (c .warned) w ≡ true → followKept (c .stand) k last ≡ false → 10 ≡ entryFault size limit last c m count
+  pub misplaced : b4Kept (c .warned) w ≡ true → followKept (c .stand) k last ≡ false → 10 ≡ entryFault size limit last c m count
   unfolding entryFault
-  ten h i = rw (e, h, i)
+  misplaced h i = rw (e, h, i)
 
-  pub eleven : b4Kept (c .warned) w ≡ true → followKept (c .stand) k last ≡ true → (n : ℕ) → n ≡ countFault k (c .sum) count → (n ≡ 0 → ⊥)
+  pub miscounted : b4Kept (c .warned) w ≡ true → followKept (c .stand) k last ≡ true → (n : ℕ) → n ≡ countFault k (c .sum) count → (n ≡ 0 → ⊥)
       → n ≡ entryFault size limit last c m count
   unfolding entryFault
-  eleven h i n f z = rw (e, h, i, ← f, ne-eqb n 0 z)
+  miscounted h i n f z = rw (e, h, i, ← f, ne-eqb n 0 z)
 
-  pub twelve : b4Kept (c .warned) w ≡ true → followKept (c .stand) k last ≡ true → countFault k (c .sum) count ≡ 0
+  pub counted : b4Kept (c .warned) w ≡ true → followKept (c .stand) k last ≡ true → countFault k (c .sum) count ≡ 0
       → dataFault size limit (c .reached) k count ≡ entryFault size limit last c m count
   unfolding entryFault
-  twelve h i f = rw (e, h, i, f)
+  counted h i f = rw (e, h, i, f)
 
 -- A total's count, against the sum of its parts.
 module _ (sum count : ℕ) where
@@ -62,7 +63,7 @@ module _ (size limit reached : ℕ) (k : Kind) (count : ℕ) (h : roomKept k rea
 pub record Kept (size limit : ℕ) (last : Bool) (c : Cursor) (k : Kind) (w : Bool) (count : ℕ) : Type 0 where
   pub b4 : b4Kept (c .warned) w ≡ true
   pub follow : followKept (c .stand) k last ≡ true
-  pub counted : countFault k (c .sum) count ≡ 0
+  pub counted : CountKept k (c .sum) count
   pub room : roomKept k (c .reached) count limit ≡ true
   pub skip : skipKept k (c .reached) count size ≡ true
 
@@ -86,38 +87,29 @@ module _ (size limit : ℕ) (last : Bool) (c : Cursor) (k : Kind) (w : Bool) (co
       record {
         b4 = not-false _ (a .0);
         follow = not-false _ (b .0);
-        counted = d .0;
+        counted = count-kept k (c .sum) count (d .0);
         room = not-false _ (f .0);
         skip = not-false _ (g .0);
       }
 
   pub no-fault : Kept size limit last c k w count → entryFault size limit last c (Known k w) count ≡ 0
   unfolding entryFault
-  no-fault h = rw (h .b4, h .follow, h .counted, h .room, h .skip)
+  no-fault h = rw (h .b4, h .follow, no-count-fault k (c .sum) count (h .counted), h .room, h .skip)
 
 -- A flag without a meaning is a fault.
 pub unknown-fault : (size limit : ℕ) (last : Bool) (c : Cursor) (count : ℕ) → entryFault size limit last c Unknown count ≡ 0 → ⊥
 unfolding entryFault
 unknown-fault size limit last c count e = omega arith
 
--- A part's count and sum, where they keep their rule.
-pub part-kept : (count parts most : ℕ) → partFault count parts most ≡ 0 → (1 ≤ count) × (parts ≤ most)
-part-kept count parts most e = by (leb 1 count) refl (leb parts most) refl e
-  where
-    by : (a : Bool) → leb 1 count ≡ a → (b : Bool) → leb parts most ≡ b → _≡_ {A = ℕ} (cond a (cond b 0 11) 11) 0 → (1 ≤ count) × (parts ≤ most)
-    by true x true y h = (leb-true 1 count x, leb-true parts most y)
-    by true x false y h = absurd (omega arith)
-    by false x b y h = absurd (omega arith)
-
 -- The sum stays within the longest record.
-pub sum-small : (k : Kind) (sum count : ℕ) → countFault k sum count ≡ 0 → sum ≤ longestRecord → sumAfter k sum count ≤ longestRecord
-sum-small Total sum count e h = omega arith
-sum-small Separator sum count e h = omega arith
-sum-small Middle sum count e h = omega (arith, part-kept count (sum + count) (longestRecord - 1) e)
-sum-small Start sum count e h = omega (arith, part-kept count count (longestRecord - 1) e)
-sum-small Last sum count e h = omega (arith, part-kept count (sum + count) longestRecord e)
-sum-small Entire sum count e h = omega arith
-sum-small Skip sum count e h = h
+pub sum-small : (k : Kind) (sum count : ℕ) → CountKept k sum count → sum ≤ longestRecord → sumAfter k sum count ≤ longestRecord
+sum-small Total sum count r h = omega arith
+sum-small Separator sum count r h = omega arith
+sum-small Middle sum count r h = omega arith
+sum-small Start sum count r h = omega arith
+sum-small Last sum count r h = omega arith
+sum-small Entire sum count r h = omega arith
+sum-small Skip sum count r h = h
 
 -- An entry without a fault leaves the scan's numbers as small as they were.
 pub stays : (size limit : ℕ) (last : Bool) (c : Cursor) (m : Meaning) (count : ℕ) → Bounded limit c → entryFault size limit last c m count ≡ 0

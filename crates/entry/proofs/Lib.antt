@@ -1,4 +1,5 @@
 -- The laws that the proofs of this crate share, and those that the crates above cite.
+pub mod Counts
 pub mod Faults
 pub mod Scans
 pub mod Tables

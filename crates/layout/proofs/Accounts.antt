@@ -8,7 +8,7 @@ use mathlib.Core.Path.{_≡_, refl, sym, ap, _∙_}
 use lib.ListN.{length, take, drop, length-drop}
 use lib.Seq.{length-take-le, take-length, drop-length}
 use lib.Dec.{eqb}
-use borrow.Author.Tests.{eqb-true, eq-eqb, le-leb}
+use borrow.Author.Tests.{eqb-true}
 use Rattle.group.specs.declared.Kind.the-variants as kind
 use Rattle.group.specs.declared.Phase.{Phase}
 use Rattle.group.specs.declared.Phase.the-variants as phase
@@ -34,7 +34,7 @@ use Rattle.layout.specs.Items.Item.{recordItem}
 use Rattle.layout.specs.Layout.{Image, kindOf, countOf, dataOf}
 use Rattle.layout.specs.Reading.{itemsAfter, begunAfter}
 use Rattle.layout.specs.Writing.{Account, totalLaid, inHand, afterRecord, afterSeparator, noted, AsAsked, imageOf}
-use Rattle.layout.proofs.Grammar.{Fits, part-fits}
+use Rattle.layout.proofs.Grammar.{Fits}
 use Rattle.layout.proofs.Held.{Held, held-warn, held-moved, held-entry, held-part, held-shut}
 
 -- What the account has in hand between calls, by the phase: free, no record is begun; inside, bytes of it are asked for; owed,
@@ -106,12 +106,12 @@ module _ {first : ℕ} {v : Desk} {run : List Image} {done : List Item} (r : Rea
       After (v .state .size) first run (λ o. afterRecord o (record { finished = done; begun = []; asked = bs })) d
   unfolding finished closed afterRecord moved layPart layData layEntry kindOf countOf dataOf mayFollow itemsAfter begunAfter
   record-free {bs} low high (entire h) =
-      let f : Fits stand.Free 0 (Piece.anEntire bs) = record { follows = refl; kept = part-fits (length bs) (length bs) longestRecord low high; small = high } in
+      let f : Fits stand.Free 0 (Piece.anEntire bs) = record { follows = refl; kept = (low, high); small = high } in
       finishes (rest-free (held-part (Piece.anEntire bs) (r .holds) f refl (omega arith)) (r .phase) (r .sum) refl)
   record-free {bs} low high (start m some less h) =
       let large = r .large in
       let l : length (take m bs) ≡ m = length-take-le m bs (omega arith) in
-      let f : Fits stand.Free 0 (Piece.aStart (take m bs)) = record { follows = refl; kept = part-fits (length (take m bs)) (length (take m bs)) (longestRecord - 1) (omega arith) (omega arith); small = omega arith } in
+      let f : Fits stand.Free 0 (Piece.aStart (take m bs)) = record { follows = refl; kept = (omega arith, omega arith); small = omega arith } in
       let k = held-moved phase.Inside m (length bs - m) (held-part (Piece.aStart (take m bs)) (r .holds) f refl (omega arith)) in
       let more : 1 ≤ length (drop m bs) = rw length-drop (omega arith) in
       after-close m (moved phase.Inside m (length bs - m) (layPart kind.Start (take m bs) v)) k refl refl l (r .low) (r .small) (omega arith) more (append-nil done) refl
@@ -121,7 +121,7 @@ separator-free : {first : ℕ} {v : Desk} {run : List Image} {d : Done} (a : Acc
     After (v .state .size) first run (λ o. afterSeparator value o a) d
 unfolding finished closed afterSeparator layEntry kindOf countOf dataOf mayFollow itemsAfter begunAfter
 separator-free a r t value low (laid h) =
-    let f : Fits stand.Free 0 (Piece.aSeparator value) = record { follows = refl; kept = rw (le-leb value 1 low); small = omega arith } in
+    let f : Fits stand.Free 0 (Piece.aSeparator value) = record { follows = refl; kept = low; small = omega arith } in
     finishes (rest-free (held-entry (Piece.aSeparator value) (r .holds) f refl (omega arith)) (r .phase) (r .sum) refl)
 separator-free a r t value low (not-laid h) = close-free r refl (sym t)
 
@@ -145,7 +145,7 @@ module _ {first : ℕ} {v : Desk} {run : List Image} {a : Account} (r : Inner fi
       let s = r .whole in
       let t = r .small in
       let f : Fits stand.Inside (v .state .sum) (Piece.aLast (a .asked)) =
-      record { follows = refl; kept = part-fits (length (a .asked)) (v .state .sum + length (a .asked)) longestRecord (r .some) s; small = omega arith } in
+      record { follows = refl; kept = (r .some, s); small = omega arith } in
       held-as refl refl (append-nil (a .finished)) refl (held-part (Piece.aLast (a .asked)) (r .holds) f refl (omega arith))
 
   record-inside : {d : Done} → RecordedInside (a .asked) v d → After (v .state .size) first run (λ o. afterRecord o a) d
@@ -158,7 +158,7 @@ module _ {first : ℕ} {v : Desk} {run : List Image} {a : Account} (r : Inner fi
       let bs : List ℕ = take m (a .asked) in
       let l : length bs ≡ m = length-take-le m (a .asked) (omega arith) in
       let f : Fits stand.Inside (v .state .sum) (Piece.aMiddle bs) =
-      record { follows = refl; kept = part-fits (length bs) (v .state .sum + length bs) (longestRecord - 1) (omega arith) (omega arith); small = omega arith } in
+      record { follows = refl; kept = (omega arith, omega arith); small = omega arith } in
       let h = held-moved phase.Inside (v .state .sum + m) (length (a .asked) - m) (held-part (Piece.aMiddle bs) (r .holds) f refl (omega arith)) in
       let more : 1 ≤ length (drop m (a .asked)) = rw length-drop (omega arith) in
       after-close m (moved phase.Inside (v .state .sum + m) (length (a .asked) - m) (layPart kind.Middle bs v)) h refl refl (omega arith) (r .low) (r .small) (omega arith) more (append-nil (a .finished)) refl
@@ -168,7 +168,7 @@ module _ {first : ℕ} {v : Desk} {run : List Image} {a : Account} (r : Inner fi
       let s = r .whole in
       let t = r .small in
       let n : ℕ = v .state .sum + length (a .asked) in
-      let f : Fits stand.AfterLast n (Piece.aTotal n) = record { follows = refl; kept = rw (eq-eqb n n refl); small = s } in
+      let f : Fits stand.AfterLast n (Piece.aTotal n) = record { follows = refl; kept = refl; small = s } in
       finishes (rest-free (held-moved phase.Free 0 0 (held-entry (Piece.aTotal n) (last-part (omega arith)) f refl (omega arith))) refl refl refl)
   record-inside (owed h k) =
       let c = r .filled in
@@ -206,7 +206,7 @@ module _ {first : ℕ} {run : List Image} (a : Account) (warn : Bool) (w : Desk)
       let none = t .empty refl in
       let sum : w .state .sum ≤ longestRecord = within 2 (w .state .sum) longestRecord (t .run .kept) .1 in
       let small = t .run .least in
-      let f : Fits stand.Owed (w .state .sum) (Piece.aTotal (w .state .sum)) = record { follows = refl; kept = rw (eq-eqb (w .state .sum) (w .state .sum) refl); small = sum } in
+      let f : Fits stand.Owed (w .state .sum) (Piece.aTotal (w .state .sum)) = record { follows = refl; kept = refl; small = sum } in
       record {
         holds = held-moved phase.Free 0 0 (held-entry (Piece.aTotal (w .state .sum)) (held-warn warn (k .holds)) f refl (omega arith));
         phase = refl;

@@ -4,17 +4,15 @@ use Prim.Native.Nat.{ℕ, _+_, _-_, _≤_}
 use native.Mathlib.Omega.{arith}
 use native.Mathlib.Nat.{add-zero}
 use mathlib.Core.List.{List, [], _∷_, _++_, append-nil}
-use mathlib.Core.Bool.{Bool, true, false, cond, false≢true}
+use mathlib.Core.Bool.{Bool, true, false, false≢true}
 use mathlib.Core.Path.{_≡_, refl, ap}
 use lib.ListN.{length, length-append}
-use lib.Dec.{leb, eqb}
-use borrow.Author.Tests.{leb-true, le-leb, eqb-true, eq-eqb}
-use Rattle.group.specs.declared.Kind.the-variants.{Total, Separator, Skip}
+use Rattle.group.specs.declared.Kind.the-variants.{Skip}
 use Rattle.group.specs.Sizes.{longestRecord}
 use Rattle.entry.specs.declared.Stand.{Stand}
 use Rattle.entry.specs.declared.Stand.the-variants.{Free, AfterPart, Inside, AfterLast, Owed}
-use Rattle.entry.specs.Rules.{mayFollow, partFault, countFault, standAfter, sumAfter, standAt, phaseAfter}
-use Rattle.entry.proofs.Faults.{part-kept}
+use Rattle.entry.specs.Rules.{mayFollow, standAfter, sumAfter, standAt, phaseAfter}
+use Rattle.entry.proofs.Counts.{CountKept}
 use Rattle.layout.specs.Items.{Laid, Tail, Piece, Token, tokens, tailTokens, middles, lateBy, joined, wholeOf, Each, Part, LateKept, SoundLaid, SoundTail}
 use Rattle.layout.specs.Items.Each.{each-none, each-more}
 use Rattle.layout.specs.Items.SoundLaid.{sound-entire, sound-spanned, sound-separator, sound-early}
@@ -28,7 +26,7 @@ use Rattle.layout.specs.Layout.{kindOf, countOf}
 -- A piece may stand at a stand, after parts that add to sum.
 pub record Fits (at : Stand) (sum : ℕ) (p : Piece) : Type 0 where
   pub follows : mayFollow at (kindOf p) ≡ true
-  pub kept : countFault (kindOf p) sum (countOf p) ≡ 0
+  pub kept : CountKept (kindOf p) sum (countOf p)
   pub small : countOf p ≤ longestRecord
 
 -- The tokens lead from a stand and a sum to the stand `to` and the sum `n`.
@@ -39,19 +37,15 @@ pub data Walk (to : Stand) (n : ℕ) : Stand → ℕ → List Token → Type 0 w
   leap : {at : Stand} {sum : ℕ} {ts : List Token} →
       mayFollow at Skip ≡ true → Walk to n (standAt (phaseAfter at)) sum ts → Walk to n at sum (groupEnd ∷ ts)
 
--- A part that keeps its rule has no fault.
-pub part-fits : (count parts most : ℕ) → 1 ≤ count → parts ≤ most → partFault count parts most ≡ 0
-part-fits count parts most h k = rw (le-leb 1 count h, le-leb parts most k)
-
 -- From sound laid items to a walk.
 module _ {to : Stand} {n : ℕ} where
   at-entire : {r : List ℕ} {ts : List Token} → Part r → length r ≤ longestRecord → Walk to n Free 0 ts → Walk to n Free 0 (piece (anEntire r) ∷ ts)
   unfolding mayFollow kindOf countOf
-  at-entire {r} p h w = step {p = anEntire r} (record { follows = refl; kept = part-fits (length r) (length r) longestRecord p h; small = h }) w
+  at-entire {r} p h w = step {p = anEntire r} (record { follows = refl; kept = (p, h); small = h }) w
 
   at-separator : {v : ℕ} {ts : List Token} → v ≤ 1 → Walk to n Free 0 ts → Walk to n Free 0 (piece (aSeparator v) ∷ ts)
   unfolding mayFollow kindOf countOf
-  at-separator {v} h w = step {sum = 0} {p = aSeparator v} (record { follows = refl; kept = rw (le-leb v 1 h); small = omega arith }) w
+  at-separator {v} h w = step {sum = 0} {p = aSeparator v} (record { follows = refl; kept = h; small = omega arith }) w
 
   at-early : {ts : List Token} → Walk to n Free 0 ts → Walk to n Free 0 (groupEnd ∷ ts)
   unfolding mayFollow
@@ -59,20 +53,20 @@ module _ {to : Stand} {n : ℕ} where
 
   at-start : {p : List ℕ} {ts : List Token} → Part p → length p ≤ (longestRecord - 1) → Walk to n Inside (length p) ts → Walk to n Free 0 (piece (aStart p) ∷ groupEnd ∷ ts)
   unfolding mayFollow kindOf countOf
-  at-start {p} part h w = step {p = aStart p} (record { follows = refl; kept = part-fits (length p) (length p) (longestRecord - 1) part h; small = omega arith }) (leap refl w)
+  at-start {p} part h w = step {p = aStart p} (record { follows = refl; kept = (part, h); small = omega arith }) (leap refl w)
 
   at-middle : {s : ℕ} {p : List ℕ} {ts : List Token} → Part p → s + length p ≤ (longestRecord - 1) → Walk to n Inside (s + length p) ts → Walk to n Inside s (piece (aMiddle p) ∷ groupEnd ∷ ts)
   unfolding mayFollow kindOf countOf
-  at-middle {s} {p} part h w = step {p = aMiddle p} (record { follows = refl; kept = part-fits (length p) (s + length p) (longestRecord - 1) part h; small = omega arith }) (leap refl w)
+  at-middle {s} {p} part h w = step {p = aMiddle p} (record { follows = refl; kept = (part, h); small = omega arith }) (leap refl w)
 
   at-last : {s : ℕ} {q : List ℕ} {ts : List Token} → Part q → s + length q ≤ longestRecord → Walk to n AfterLast (s + length q) ts → Walk to n Inside s (piece (aLast q) ∷ ts)
   unfolding mayFollow kindOf countOf
-  at-last {s} {q} part h w = step {p = aLast q} (record { follows = refl; kept = part-fits (length q) (s + length q) longestRecord part h; small = omega arith }) w
+  at-last {s} {q} part h w = step {p = aLast q} (record { follows = refl; kept = (part, h); small = omega arith }) w
 
   at-total : {s : ℕ} {m : ℕ} {ts : List Token} → (l : Bool) → m ≡ s → s ≤ longestRecord → Walk to n Free 0 ts → Walk to n AfterLast s (lateBy l (piece (aTotal m) ∷ ts))
   unfolding mayFollow kindOf countOf lateBy
-  at-total {s} {m} true e h w = leap refl (step {sum = s} {p = aTotal m} (record { follows = refl; kept = rw (eq-eqb m s e); small = omega arith }) w)
-  at-total {s} {m} false e h w = step {sum = s} {p = aTotal m} (record { follows = refl; kept = rw (eq-eqb m s e); small = omega arith }) w
+  at-total {s} {m} true e h w = leap refl (step {sum = s} {p = aTotal m} (record { follows = refl; kept = e; small = omega arith }) w)
+  at-total {s} {m} false e h w = step {sum = s} {p = aTotal m} (record { follows = refl; kept = e; small = omega arith }) w
 
   at-middles : {s : ℕ} {ps : List (List ℕ)} {ts : List Token} → Each Part ps → s + length (joined ps) ≤ (longestRecord - 1) → Walk to n Inside (s + length (joined ps)) ts → Walk to n Inside s (middles ps ts)
   unfolding middles joined
@@ -162,20 +156,6 @@ unfolding joined
 length-snoc [] m = simp append-nil (omega arith)
 length-snoc (p ∷ ps) m = simp (length-append, length-snoc ps m) (omega arith)
 
-separator-kept : (v sum : ℕ) → countFault Separator sum v ≡ 0 → v ≤ 1
-separator-kept v sum e = by (leb v 1) refl e
-  where
-    by : (b : Bool) → leb v 1 ≡ b → _≡_ {A = ℕ} (cond b 0 11) 0 → v ≤ 1
-    by true x h = leb-true v 1 x
-    by false x h = absurd (omega arith)
-
-pub total-equals : (n sum : ℕ) → countFault Total sum n ≡ 0 → n ≡ sum
-total-equals n sum e = by (eqb n sum) refl e
-  where
-    by : (b : Bool) → eqb n sum ≡ b → _≡_ {A = ℕ} (cond b 0 11) 0 → n ≡ sum
-    by true x h = eqb-true n sum x
-    by false x h = absurd (omega arith)
-
 not-begun : (s : ℕ) (p : Piece) → Fits AfterPart s p → ⊥
 unfolding mayFollow kindOf
 not-begun s (aTotal n) f = false≢true (f .follows)
@@ -213,26 +193,26 @@ found-spanned size p ps q l n ts a b c h e f =
 pub take-piece : (size : ℕ) {at : Stand} {s : ℕ} (o : Open at s) (p : Piece) → Fits at s p → Next size o (piece p) (standAfter at (kindOf p)) (sumAfter (kindOf p) s (countOf p))
 unfolding mayFollow kindOf countOf before lateBy
 take-piece size o-free (aTotal n) f = absurd (false≢true (f .follows))
-take-piece size o-free (aSeparator n) f = record { opens = o-free; back = λ ts r. found-separator size (separator-kept n 0 (f .kept)) r }
+take-piece size o-free (aSeparator n) f = record { opens = o-free; back = λ ts r. found-separator size (f .kept) r }
 take-piece size o-free (aMiddle bs) f = absurd (false≢true (f .follows))
-take-piece size o-free (aStart bs) f = let (h, i) = part-kept (length bs) (length bs) (longestRecord - 1) (f .kept) in record { opens = o-start bs h i refl; back = λ ts r. r }
+take-piece size o-free (aStart bs) f = let (h, i) = f .kept in record { opens = o-start bs h i refl; back = λ ts r. r }
 take-piece size o-free (aLast bs) f = absurd (false≢true (f .follows))
-take-piece size o-free (anEntire bs) f = record { opens = o-free; back = λ ts r. found-entire size (part-kept (length bs) (length bs) longestRecord (f .kept) .0) (f .small) r }
+take-piece size o-free (anEntire bs) f = record { opens = o-free; back = λ ts r. found-entire size (f .kept .0) (f .small) r }
 take-piece size {s} (o-start p a h e) x f = absurd (not-begun s x f)
 take-piece size {s} (o-middle p ps m a b c h e) x f = absurd (not-begun s x f)
 take-piece size {s} (o-inside p ps a b h e) (aTotal n) f = absurd (false≢true (f .follows))
 take-piece size {s} (o-inside p ps a b h e) (aSeparator n) f = absurd (false≢true (f .follows))
-take-piece size {s} (o-inside p ps a b h e) (aMiddle bs) f = let (i, j) = part-kept (length bs) (s + length bs) (longestRecord - 1) (f .kept) in record { opens = o-middle p ps bs a b i j (omega arith); back = λ ts r. r }
+take-piece size {s} (o-inside p ps a b h e) (aMiddle bs) f = let (i, j) = f .kept in record { opens = o-middle p ps bs a b i j (omega arith); back = λ ts r. r }
 take-piece size {s} (o-inside p ps a b h e) (aStart bs) f = absurd (false≢true (f .follows))
-take-piece size {s} (o-inside p ps a b h e) (aLast bs) f = let (i, j) = part-kept (length bs) (s + length bs) longestRecord (f .kept) in record { opens = o-ended p ps bs a b i j (omega arith); back = λ ts r. r }
+take-piece size {s} (o-inside p ps a b h e) (aLast bs) f = let (i, j) = f .kept in record { opens = o-ended p ps bs a b i j (omega arith); back = λ ts r. r }
 take-piece size {s} (o-inside p ps a b h e) (anEntire bs) f = absurd (false≢true (f .follows))
-take-piece size {s} (o-ended p ps q a b c h e) (aTotal n) f = record { opens = o-free; back = λ ts r. found-spanned size p ps q false n ts a b c (omega arith) (omega (arith, total-equals n s (f .kept))) r }
+take-piece size {s} (o-ended p ps q a b c h e) (aTotal n) f = record { opens = o-free; back = λ ts r. found-spanned size p ps q false n ts a b c (omega arith) (omega (arith, f .kept)) r }
 take-piece size {s} (o-ended p ps q a b c h e) (aSeparator n) f = absurd (false≢true (f .follows))
 take-piece size {s} (o-ended p ps q a b c h e) (aMiddle bs) f = absurd (false≢true (f .follows))
 take-piece size {s} (o-ended p ps q a b c h e) (aStart bs) f = absurd (false≢true (f .follows))
 take-piece size {s} (o-ended p ps q a b c h e) (aLast bs) f = absurd (false≢true (f .follows))
 take-piece size {s} (o-ended p ps q a b c h e) (anEntire bs) f = absurd (false≢true (f .follows))
-take-piece size {s} (o-owed p ps q a b c h e) (aTotal n) f = record { opens = o-free; back = λ ts r. found-spanned size p ps q true n ts a b c (omega arith) (omega (arith, total-equals n s (f .kept))) r }
+take-piece size {s} (o-owed p ps q a b c h e) (aTotal n) f = record { opens = o-free; back = λ ts r. found-spanned size p ps q true n ts a b c (omega arith) (omega (arith, f .kept)) r }
 take-piece size {s} (o-owed p ps q a b c h e) (aSeparator n) f = absurd (false≢true (f .follows))
 take-piece size {s} (o-owed p ps q a b c h e) (aMiddle bs) f = absurd (false≢true (f .follows))
 take-piece size {s} (o-owed p ps q a b c h e) (aStart bs) f = absurd (false≢true (f .follows))

@@ -52,7 +52,7 @@ skip-kept size limit c warned over w h l e =
     record {
       b4 = w;
       follow = and {a = mayFollow (c .stand) Skip} {b = isSkip Skip} h refl;
-      counted = refl;
+      counted = tt;
       room = le-leb (c .reached) limit l;
       skip = eq-eqb over (size - c .reached) e;
     }

@@ -24,7 +24,7 @@ use Rattle.layout.specs.Writing.{Account, Wrote}
 use Rattle.layout.specs.WritingStated.{begunIn, TotalStands, EndInLast, TotalsKept}
 use Rattle.layout.specs.WritingStated.TotalStands.{in-its-group, first-in-next, still-owed}
 use Rattle.layout.proofs.Assembled.{piecesIn, flat, in-grouped}
-use Rattle.layout.proofs.Grammar.{Fits, Walk, Between, total-equals}
+use Rattle.layout.proofs.Grammar.{Fits, Walk, Between}
 use Rattle.layout.proofs.Grammar.Between.{b-free, b-inside, b-owed}
 use Rattle.layout.proofs.Grammar.Walk.{stop, step, leap}
 use Rattle.layout.proofs.Held.{begun-append, grouped-append}
@@ -94,7 +94,7 @@ data OnlyTotal (m : ℕ) : Piece → Type 0 where
 
 after-last : (m : ℕ) (p : Piece) → Fits AfterLast m p → OnlyTotal m p
 unfolding mayFollow kindOf countOf
-after-last m (aTotal k) f = only-total (total-equals k m (f .kept))
+after-last m (aTotal k) f = only-total (f .kept)
 after-last m (aSeparator v) f = absurd (false≢true (f .follows))
 after-last m (aMiddle bs) f = absurd (false≢true (f .follows))
 after-last m (aStart bs) f = absurd (false≢true (f .follows))

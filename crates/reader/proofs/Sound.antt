@@ -23,10 +23,11 @@ use Rattle.entry.specs.declared.Stand.the-variants.{Free, AfterPart, Inside, Af
 use Rattle.entry.specs.declared.Cursor.{Cursor}
 use Rattle.entry.specs.declared.ScanEnd.the-variants.{Reached}
 use Rattle.reader.specs.declared.ReadAnswer.the-variants as answer
-use Rattle.entry.specs.Rules.{mayFollow, isSkip, countFault, standAt, phaseAfter, standAfter, sumAfter, entryFault}
+use Rattle.entry.specs.Rules.{mayFollow, isSkip, standAt, phaseAfter, standAfter, sumAfter, entryFault}
 use Rattle.entry.specs.Scan.{after, isLast, scan}
 use Rattle.reader.specs.Answer.{sound, opening, groupScan, readCall}
-use Rattle.entry.proofs.Faults.{kept, part-kept}
+use Rattle.entry.proofs.Counts.{CountKept}
+use Rattle.entry.proofs.Faults.{kept}
 use Rattle.entry.proofs.Scans.{went-on}
 use Rattle.reader.proofs.Accepted.{accepted}
 
@@ -43,18 +44,15 @@ last-after Inside sum e s = within 1 sum (longestRecord - 1) s .0
 last-after AfterLast sum e s = let z : _≡_ {A = ℕ} 0 1 = cc in absurd (omega arith)
 last-after Owed sum e s = let z : _≡_ {A = ℕ} 0 1 = cc in absurd (omega arith)
 
-suits-after : (k : Kind) (stand : Stand) (sum count : ℕ) → mayFollow stand k ≡ true → countFault k sum count ≡ 0 → Suits stand sum
+suits-after : (k : Kind) (stand : Stand) (sum count : ℕ) → mayFollow stand k ≡ true → CountKept k sum count → Suits stand sum
     → Suits (standAfter stand k) (sumAfter k sum count)
 suits-after Total stand sum count m f s = refl
 suits-after Separator stand sum count m f s = refl
 suits-after Middle stand sum count m f s =
-    let p = part-kept count (sum + count) (longestRecord - 1) f in
     is-within {low = 1} {n = sum + count} {high = longestRecord - 1} (omega arith) (omega arith)
 suits-after Start stand sum count m f s =
-    let p = part-kept count count (longestRecord - 1) f in
     is-within {low = 1} {n = count} {high = longestRecord - 1} (omega arith) (omega arith)
 suits-after Last stand sum count m f s =
-    let p = part-kept count (sum + count) longestRecord f in
     let one = last-after stand sum m s in
     is-within {low = 2} {n = sum + count} {high = longestRecord} (omega arith) (omega arith)
 suits-after Entire stand sum count m f s = refl

@@ -46,11 +46,11 @@ unfolding mayFollow
 single-kept size limit w sum reached bytes e (separates f n b) small fits =
     rw (f, meaning-of-flag Separator w)
     (no-fault size limit false _ Separator w (e .count)
-    (record { b4 = same-b4 w; follow = refl; counted = rw (le-leb _ _ n); room = le-leb reached limit (omega arith); skip = refl }))
+    (record { b4 = same-b4 w; follow = refl; counted = n; room = le-leb reached limit (omega arith); skip = refl }))
 single-kept size limit w sum reached bytes e (isEntire f n b) small fits =
     rw (f, meaning-of-flag Entire w)
     (no-fault size limit false _ Entire w (e .count)
-    (record { b4 = same-b4 w; follow = refl; counted = rw (le-leb _ _ n, le-leb _ _ small); room = le-leb (reached + e .count) limit (omega arith); skip = refl }))
+    (record { b4 = same-b4 w; follow = refl; counted = (n, small); room = le-leb (reached + e .count) limit (omega arith); skip = refl }))
 
 pub single-after : (w : Bool) (sum reached bytes : ℕ) (e : Entry) → Single w e bytes
     → after (freeAt w sum reached) (meaningOf (e .flag)) (e .count)
@@ -64,7 +64,7 @@ pub skip-kept : (size limit : ℕ) (c : Cursor) (e : Entry) → e .flag ≡ flag
 skip-kept size limit c e f n r h =
     rw (f, meaning-of-flag Skip (c .warned))
     (no-fault size limit true c Skip (c .warned) (e .count)
-    (record { b4 = same-b4 (c .warned); follow = rw h; counted = refl; room = le-leb _ _ r; skip = eq-eqb _ _ n }))
+    (record { b4 = same-b4 (c .warned); follow = rw h; counted = tt; room = le-leb _ _ r; skip = eq-eqb _ _ n }))
 
 pub skip-after : (c : Cursor) (e : Entry) → e .flag ≡ flagOf Skip (c .warned) → after c (meaningOf (e .flag)) (e .count) ≡ c
 skip-after c e f = rw (f, meaning-of-flag Skip (c .warned))

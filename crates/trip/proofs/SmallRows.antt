@@ -1,12 +1,11 @@
 -- The numbers of an accepted group's rows have room in four bytes each, whatever its bytes.
 -- Assumes nothing.
 use mathlib.Core.Path.{_≡_, refl, subst}
-use mathlib.Core.Bool.{Bool, true, false, cond}
+use mathlib.Core.Bool.{Bool, true}
 use mathlib.Core.List.{List, [], _∷_}
-use Prim.Native.Nat.{ℕ, suc, _+_, _-_, _^_, _≤_, _<_}
+use Prim.Native.Nat.{ℕ, suc, _-_, _^_, _≤_, _<_}
 use native.Mathlib.Omega.{arith}
-use borrow.Author.Tests.{eqb-true, leb-true}
-use lib.Dec.{eqb, leb}
+use borrow.Author.Tests.{eqb-true}
 use Rattle.numbers.proofs.InBytes.{Smalls}
 use Rattle.group.specs.declared.Entry.{Entry}
 use Rattle.group.specs.declared.Kind.{Kind}
@@ -20,12 +19,13 @@ use Rattle.reader.specs.declared.Reader.{Reader}
 use Rattle.entry.specs.declared.Cursor.{Cursor}
 use Rattle.entry.specs.declared.ScanEnd.the-variants.{Reached}
 use Rattle.reader.specs.declared.ReadAnswer.the-variants as answer
-use Rattle.entry.specs.Rules.{entryFault, skipKept, countFault}
+use Rattle.entry.specs.Rules.{entryFault, skipKept}
 use Rattle.entry.specs.Scan.{after, isLast, scan, reachedBy}
 use Rattle.reader.specs.Rows.{rowKind, rowsFrom}
 use Rattle.entry.specs.Bounds.{Bounded}
 use Rattle.reader.specs.Answer.{opening, groupScan, groupRows, readCall}
-use Rattle.entry.proofs.Faults.{kept, unknown-fault, part-kept, stays}
+use Rattle.entry.proofs.Counts.{CountKept}
+use Rattle.entry.proofs.Faults.{kept, unknown-fault, stays}
 use Rattle.entry.proofs.Scans.{went-on}
 use Rattle.reader.proofs.Accepted.{accepted, begins}
 
@@ -39,20 +39,16 @@ kind-small (Known Last w) = omega arith
 kind-small (Known Entire w) = omega arith
 kind-small (Known Skip w) = omega arith
 
-held : (a : Bool) (k : ℕ) → cond a 0 (suc k) ≡ 0 → a ≡ true
-held true k e = refl
-held false k e = absurd (omega arith)
-
 -- A count that keeps its rule.
-counted : (k : Kind) (size reached sum count : ℕ) → size ≤ standardSize → sum ≤ longestRecord → countFault k sum count ≡ 0 → skipKept k reached count size ≡ true →
+counted : (k : Kind) (size reached sum count : ℕ) → size ≤ standardSize → sum ≤ longestRecord → CountKept k sum count → skipKept k reached count size ≡ true →
     count ≤ longestRecord
-counted Total size reached sum count h s e f = omega (arith, eqb-true count sum (held (eqb count sum) 10 e))
-counted Separator size reached sum count h s e f = omega (arith, leb-true count 1 (held (leb count 1) 10 e))
-counted Middle size reached sum count h s e f = omega (arith, part-kept count (sum + count) (longestRecord - 1) e)
-counted Start size reached sum count h s e f = omega (arith, part-kept count count (longestRecord - 1) e)
-counted Last size reached sum count h s e f = omega (arith, part-kept count (sum + count) longestRecord e)
-counted Entire size reached sum count h s e f = omega (arith, part-kept count count longestRecord e)
-counted Skip size reached sum count h s e f = omega (arith, eqb-true count (size - reached) f)
+counted Total size reached sum count h s r f = omega arith
+counted Separator size reached sum count h s r f = omega arith
+counted Middle size reached sum count h s r f = omega arith
+counted Start size reached sum count h s r f = omega arith
+counted Last size reached sum count h s r f = omega arith
+counted Entire size reached sum count h s r f = omega arith
+counted Skip size reached sum count h s r f = omega (arith, eqb-true count (size - reached) f)
 
 count-small : (size limit : ℕ) (last : Bool) (c : Cursor) (m : Meaning) (count : ℕ) → size ≤ standardSize → Bounded limit c → entryFault size limit last c m count ≡ 0 →
     count < 256 ^ 4

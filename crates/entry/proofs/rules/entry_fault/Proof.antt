@@ -6,7 +6,7 @@ use Rattle.group.specs.Flags.{meaningOf}
 use Rattle.numbers.proofs.Tests.{fails, holds}
 use Rattle.group.proofs.FlagLaws.{meaning-by-code, meaning-unknown}
 use Rattle.entry.specs.Rules.{entryFault}
-use Rattle.entry.proofs.Faults.{nine, ten, eleven, twelve}
+use Rattle.entry.proofs.Faults.{dropped, misplaced, miscounted, counted}
 use Rattle.entry.proofs.rules.entry_fault.Statement.{statement}
 use Rattle.entry.proofs.rules.entry_fault.Tie as tie
 
@@ -26,10 +26,10 @@ entry-fault-spec =
     (λ c κs. search needs)
     (λ c κs. search needs)
     (λ c κs. search needs)
-    (λ c. nine _ _ _ _ _ _ _ _ (meant (c .before .before)) (fails (c .before .b4-kept .ensures) (c .if2 .taken)))
+    (λ c. dropped _ _ _ _ _ _ _ _ (meant (c .before .before)) (fails (c .before .b4-kept .ensures) (c .if2 .taken)))
     (λ c κs. c .before .before .before .before .before .pre .0 .0)
-    (λ c. ten _ _ _ _ _ _ _ _ (meant (c .before .before .before .before)) (holds (c .before .before .before .b4-kept .ensures) (c .before .before .if2 .left)) (fails (c .before .follow-kept .ensures) (c .if3 .taken)))
+    (λ c. misplaced _ _ _ _ _ _ _ _ (meant (c .before .before .before .before)) (holds (c .before .before .before .b4-kept .ensures) (c .before .before .if2 .left)) (fails (c .before .follow-kept .ensures) (c .if3 .taken)))
     (λ c κs. search needs)
-    (λ c. eleven _ _ _ _ _ _ _ _ (meant (c .before .before .before .before .before .before)) (holds (c .before .before .before .before .before .b4-kept .ensures) (c .before .before .before .before .if2 .left)) (holds (c .before .before .before .follow-kept .ensures) (c .before .before .if3 .left)) _ (c .before .count-fault .ensures) (c .if4 .taken))
+    (λ c. miscounted _ _ _ _ _ _ _ _ (meant (c .before .before .before .before .before .before)) (holds (c .before .before .before .before .before .b4-kept .ensures) (c .before .before .before .before .if2 .left)) (holds (c .before .before .before .follow-kept .ensures) (c .before .before .if3 .left)) _ (c .before .count-fault .ensures) (c .if4 .taken))
     (λ c κs. search needs)
-    (λ c. c .data-fault .ensures ∙ twelve _ _ _ _ _ _ _ _ (meant (c .before .before .before .before .before .before .before)) (holds (c .before .before .before .before .before .before .b4-kept .ensures) (c .before .before .before .before .before .if2 .left)) (holds (c .before .before .before .before .follow-kept .ensures) (c .before .before .before .if3 .left)) (sym (c .before .before .count-fault .ensures) ∙ c .before .if4 .left)))
+    (λ c. c .data-fault .ensures ∙ counted _ _ _ _ _ _ _ _ (meant (c .before .before .before .before .before .before .before)) (holds (c .before .before .before .before .before .before .b4-kept .ensures) (c .before .before .before .before .before .if2 .left)) (holds (c .before .before .before .before .follow-kept .ensures) (c .before .before .before .if3 .left)) (sym (c .before .before .count-fault .ensures) ∙ c .before .if4 .left)))
