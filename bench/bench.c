@@ -1,9 +1,10 @@
 /* The library beside plain C built with -O2 and with -O3, and writing beside memcpy of the same bytes, in one run, at
-   the standard size; the third code over 46 rows of 2,878 bytes. Best of many interleaved repetitions, as ratios. Four uses:
+   the standard size; the third code over 46 rows of 2,878 bytes; the search in 65,536 received bytes. Best of many interleaved
+   repetitions, as ratios. Four uses:
      bench time COUNTS ROUNDS  the table, best of so many; COUNTS is a file of lines "work who instructions"
      bench counts COUNTS       the instructions alone, where a time would say nothing
-     bench count WORK WHO N    reads N groups, 2 at most, or writes N records, or does the third code's work N times, and
-                               measures nothing: for counting them
+     bench count WORK WHO N    reads N groups, 2 at most, or writes N records, or does the third code's work or the search N
+                               times, and measures nothing: for counting them
      bench works               the names of the works, each with the call it measures */
 
 #define _POSIX_C_SOURCE 199309L
@@ -17,6 +18,8 @@
 #define L DDS_SIZE_STANDARD
 #define IMAGES 16              /* groups of one kind, read in turn */
 #define ROW 2878               /* bytes of a row of the third code */
+#define RECEIVED 65536         /* bytes that are searched */
+#define ROWS (DDS_ROW_LEN * ((L - DDS_INFORMATION_LEN) / DDS_ENTRY_LEN)) /* bytes of the rows of the fullest table */
 #define WHO 3                  /* the library, plain C -O2, plain C -O3 */
 #define BYTES (4u << 20)       /* bytes written in one repetition, or one record if it is longer */
 #define MOST_PIECES (BYTES / 100 + 4096)
@@ -25,10 +28,12 @@ typedef uint32_t read_call(uint8_t *, size_t, const uint8_t *, size_t, uint32_t,
 typedef uint32_t record_call(uint8_t *, size_t, uint8_t *, size_t, const uint8_t *, size_t, uint32_t, uint8_t *, size_t);
 typedef uint32_t rows_call(uint32_t, uint8_t *, size_t, uint8_t *, size_t);
 typedef uint32_t two_call(uint32_t, uint32_t, uint32_t, uint8_t *, size_t, uint8_t *, size_t);
+typedef uint32_t find_call(const uint8_t *, size_t, uint8_t *, size_t);
 extern read_call plain2_read, plain3_read;
 extern rows_call plain2_third_make, plain3_third_make, plain2_third_mend, plain3_third_mend;
 extern two_call plain2_third_restore_two, plain3_third_restore_two;
 extern record_call plain2_record, plain3_record;
+extern find_call plain2_radio_find, plain3_radio_find;
 
 static const char *const who_name[WHO] = { "dds", "plain2", "plain3" };
 static read_call *const reads[WHO] = { dds_read, plain2_read, plain3_read };
@@ -36,23 +41,36 @@ static record_call *const records[WHO] = { dds_record, plain2_record, plain3_rec
 static rows_call *const makes[WHO] = { dds_third_make, plain2_third_make, plain3_third_make };
 static rows_call *const mends[WHO] = { dds_third_mend, plain2_third_mend, plain3_third_mend };
 static two_call *const restores[WHO] = { dds_third_restore_two, plain2_third_restore_two, plain3_third_restore_two };
+static find_call *const finds[WHO] = { dds_radio_find, plain2_radio_find, plain3_radio_find };
 
-/* a reading work has entries, a writing work a record length, a work of the third code the name of its call; `most` is the
-   ratio wanted, 0 where none is set */
-typedef struct { const char *name; uint32_t entries; int mixed; uint32_t length; double most; const char *third; } work;
+/* a reading work has entries, a writing work a record length, a work of the third code the name of its call, a search what it
+   goes through; `most` is the ratio wanted, 0 where none is set */
+enum { SEARCHES_NOT, RANDOM, ZEROS, NEAR };
+typedef struct {
+    const char *name;
+    uint32_t entries;
+    int mixed;
+    uint32_t length;
+    double most;
+    const char *third;
+    int search;
+} work;
 static const work works[] = {
-    { "read-2", 2, 0, 0, 1.0, 0 }, { "read-100-regular", 100, 0, 0, 1.0, 0 }, { "read-100-mixed", 100, 1, 0, 1.0, 0 },
-    { "read-30000-regular", 30000, 0, 0, 1.0, 0 }, { "read-30000-mixed", 30000, 1, 0, 1.0, 0 },
-    { "write-100", 0, 0, 100, 2.0, 0 }, { "write-1024", 0, 0, 1024, 0, 0 }, { "write-65536", 0, 0, 65536, 1.15, 0 },
-    { "write-126592", 0, 0, 126592, 1.15, 0 }, { "write-16777215", 0, 0, 16777215, 1.15, 0 },
-    { "third-make", 0, 0, 0, 1.0, "third_make" }, { "third-restore-two", 0, 0, 0, 1.0, "third_restore_two" },
-    { "third-mend", 0, 0, 0, 1.0, "third_mend" },
+    { "read-2", 2, 0, 0, 1.0, 0, 0 }, { "read-100-regular", 100, 0, 0, 1.0, 0, 0 }, { "read-100-mixed", 100, 1, 0, 1.0, 0, 0 },
+    { "read-30000-regular", 30000, 0, 0, 1.0, 0, 0 }, { "read-30000-mixed", 30000, 1, 0, 1.0, 0, 0 },
+    { "read-31650", 31650, 0, 0, 1.0, 0, 0 },
+    { "write-100", 0, 0, 100, 2.0, 0, 0 }, { "write-1024", 0, 0, 1024, 0, 0, 0 }, { "write-65536", 0, 0, 65536, 1.15, 0, 0 },
+    { "write-126592", 0, 0, 126592, 1.15, 0, 0 }, { "write-16777215", 0, 0, 16777215, 1.15, 0, 0 },
+    { "third-make", 0, 0, 0, 1.0, "third_make", 0 }, { "third-restore-two", 0, 0, 0, 1.0, "third_restore_two", 0 },
+    { "third-mend", 0, 0, 0, 1.0, "third_mend", 0 },
+    { "find-random", 0, 0, 0, 0, 0, RANDOM }, { "find-zeros", 0, 0, 0, 0, 0, ZEROS }, { "find-near", 0, 0, 0, 0, 0, NEAR },
 };
 #define WORKS ((int)(sizeof works / sizeof *works))
 
-static uint8_t images[IMAGES][L], rows[12 * 31650], other_rows[12 * 31650], group[L], other_group[L], *source;
-static uint8_t third_rows[46 * ROW], other_third[46 * ROW];
-static uint8_t reader_fresh[16], writer_fresh[32], state[32], answer[24];
+static uint8_t images[IMAGES][L], rows[ROWS], other_rows[ROWS], group[L], other_group[L], *source;
+static uint8_t third_rows[DDS_THIRD_ROWS * ROW], other_third[DDS_THIRD_ROWS * ROW], received[RECEIVED];
+static uint8_t reader_fresh[DDS_READER_LEN], writer_fresh[DDS_WRITER_LEN], state[DDS_WRITER_LEN];
+static uint8_t answer[DDS_ANSWER_LEN], other_answer[DDS_ANSWER_LEN];
 
 static uint64_t seed = 0x9E3779B97F4A7C15u;
 static uint32_t below(uint32_t n)
@@ -63,7 +81,10 @@ static uint32_t below(uint32_t n)
     return (uint32_t)((seed >> 32) * n >> 32);
 }
 
-static uint32_t number(const uint8_t *p) { return (uint32_t)p[0] << 24 | (uint32_t)p[1] << 16 | (uint32_t)p[2] << 8 | (uint32_t)p[3]; }
+static uint32_t number(const uint8_t *p)
+{
+    return (uint32_t)p[0] << 24 | (uint32_t)p[1] << 16 | (uint32_t)p[2] << 8 | (uint32_t)p[3];
+}
 
 static double now(void)
 {
@@ -104,8 +125,9 @@ static long read_once(const work *w, int who, long times)
 {
     long t, bad = 0;
     for (t = 0; t < times; t++) {
-        memcpy(state, reader_fresh, 16);
-        bad += reads[who](state, 16, images[t % IMAGES], L, 1, w->entries, rows, sizeof rows, answer, 24) != 0;
+        const uint8_t *image = images[t % IMAGES];
+        memcpy(state, reader_fresh, sizeof reader_fresh);
+        bad += reads[who](state, DDS_READER_LEN, image, L, 1, w->entries, rows, sizeof rows, answer, sizeof answer) != 0;
     }
     if (bad) wrong(w->name, "a group was refused");
     return times;
@@ -122,13 +144,14 @@ static long write_once(const work *w, int who, long times, int log)
 {
     long i;
     record_call *record = records[who];
-    memcpy(state, writer_fresh, 32);
+    memcpy(state, writer_fresh, sizeof state);
     if (log) piece_count = 0;
     for (i = 0; i < times; i++) {
         uint32_t from = 0, left = w->length;
         while (left) {
             uint32_t at = number(state + DDS_STATE_DATA), taken;
-            if (record(state, 32, group, L, source + from, left, 0, answer, 24)) wrong(w->name, "a record was refused");
+            if (record(state, sizeof state, group, L, source + from, left, 0, answer, sizeof answer))
+                wrong(w->name, "a record was refused");
             taken = number(answer + DDS_ANSWER_OUTCOME) ? number(answer + DDS_ANSWER_TAKEN) : left;
             if (log && taken) {
                 piece p = { at, from, taken };
@@ -156,7 +179,7 @@ static void make_rows(void)
 {
     uint32_t i;
     for (i = 0; i < sizeof third_rows; i++) third_rows[i] = (uint8_t)below(256);
-    if (dds_third_make(ROW, third_rows, sizeof third_rows, answer, 24)) wrong("third code", "rows were refused");
+    if (dds_third_make(ROW, third_rows, sizeof third_rows, answer, sizeof answer)) wrong("third code", "rows were refused");
 }
 
 static long third_once(const work *w, int who, long times)
@@ -164,16 +187,50 @@ static long third_once(const work *w, int who, long times)
     long t, bad = 0;
     uint32_t c;
     for (t = 0; t < times; t++)
-        if (!strcmp(w->third, "third_make")) bad += makes[who](ROW, third_rows, sizeof third_rows, answer, 24) != 0;
+        if (!strcmp(w->third, "third_make")) bad += makes[who](ROW, third_rows, sizeof third_rows, answer, sizeof answer) != 0;
         else if (!strcmp(w->third, "third_mend")) {
-            for (c = 0; c < ROW; c++) third_rows[c % 46 * ROW + c] ^= (uint8_t)(c % 255 + 1);
-            bad += mends[who](ROW, third_rows, sizeof third_rows, answer, 24) != 0;
+            for (c = 0; c < ROW; c++) third_rows[c % DDS_THIRD_ROWS * ROW + c] ^= (uint8_t)(c % 255 + 1);
+            bad += mends[who](ROW, third_rows, sizeof third_rows, answer, sizeof answer) != 0;
         } else {
             memset(third_rows + 7 * ROW, 0x77, ROW);
             memset(third_rows + 30 * ROW, 0x33, ROW);
-            bad += restores[who](ROW, 7, 30, third_rows, sizeof third_rows, answer, 24) != 0;
+            bad += restores[who](ROW, 7, 30, third_rows, sizeof third_rows, answer, sizeof answer) != 0;
         }
     if (bad) wrong(w->name, "rows were refused");
+    return times;
+}
+
+/* ---- The search: a message begins at the very end, so that all bytes are gone through and the place is known */
+
+static const uint8_t message[6] = { 0x00, 0x00, 0x00, 0xB2, 0x4D, 0x01 };
+
+/* almost the pattern: pieces of it at random, each time it would come about its last byte another */
+static void make_near(void)
+{
+    static const uint8_t almost[5][5] = { { 0, 0, 0, 0xB2, 0x4C }, { 1, 0, 0, 0xB2, 0x4D }, { 0, 0, 0, 0xB1, 0x4D },
+                                          { 0, 0, 0, 0, 0xB2 }, { 0, 0, 0xB2, 0, 0 } };
+    uint32_t i, at;
+    for (at = 0; at < RECEIVED; at += 5) memcpy(received + at, almost[below(5)], RECEIVED - at < 5 ? RECEIVED - at : 5);
+    for (i = 0; i + 5 <= RECEIVED; i++)
+        if (!memcmp(received + i, message, 5)) received[i + 4] = 0x4C;
+}
+
+static void make_received(const work *w)
+{
+    uint32_t i;
+    if (w->search == NEAR) make_near();
+    else for (i = 0; i < RECEIVED; i++) received[i] = w->search == RANDOM ? (uint8_t)below(256) : 0;
+    memcpy(received + RECEIVED - sizeof message, message, sizeof message);
+}
+
+static long find_once(const work *w, int who, long times)
+{
+    long t, bad = 0;
+    for (t = 0; t < times; t++) {
+        bad += finds[who](received, RECEIVED, answer, sizeof answer) != 0;
+        bad += number(answer + DDS_ANSWER_PATTERN) != RECEIVED - 4;
+    }
+    if (bad) wrong(w->name, "the message at the end was not found");
     return times;
 }
 
@@ -181,7 +238,7 @@ static long third_once(const work *w, int who, long times)
 
 static long repetitions(const work *w)
 {
-    if (w->third) return 16;
+    if (w->third || w->search) return 16;
     if (w->length) return w->length >= BYTES ? 1 : BYTES / w->length;
     return w->entries >= 30000 ? IMAGES : w->entries >= 100 ? 64 * IMAGES : 1024 * IMAGES;
 }
@@ -192,8 +249,13 @@ static void agree(const work *w)
     int who;
     if (w->entries) make_images(w, IMAGES);
     if (w->third) { make_rows(); memcpy(other_third, third_rows, sizeof third_rows); }
+    if (w->search) make_received(w);
     for (who = 0; who < WHO; who++) {
-        if (w->third) {
+        if (w->search) {
+            find_once(w, who, 1);
+            if (who == 0) memcpy(other_answer, answer, sizeof answer);
+            else if (memcmp(other_answer, answer, sizeof answer)) wrong(w->name, "answers differ");
+        } else if (w->third) {
             third_once(w, who, 1);
             if (memcmp(other_third, third_rows, sizeof third_rows)) wrong(w->name, "rows differ");
         } else if (w->entries) {
@@ -226,6 +288,7 @@ static void measure(int i, int rounds)
             begun = now();
             if (who == WHO) copy_pieces();
             else if (w->third) third_once(w, who, times);
+            else if (w->search) find_once(w, who, times);
             else if (w->entries) read_once(w, who, times);
             else write_once(w, who, times, 0);
             took = (now() - begun) / (double)times;
@@ -281,9 +344,13 @@ int main(int argc, char **argv)
     uint32_t k;
     source = calloc(DDS_RECORD_MOST, 1);
     if (!source) return 2;
-    if (dds_reader_start(L, 1, reader_fresh, 16, answer, 24) || dds_writer_start(L, 1, writer_fresh, 32, answer, 24)) return 2;
+    if (dds_reader_start(L, 1, reader_fresh, sizeof reader_fresh, answer, sizeof answer)) return 2;
+    if (dds_writer_start(L, 1, writer_fresh, sizeof writer_fresh, answer, sizeof answer)) return 2;
     if (argc == 2 && !strcmp(argv[1], "works")) {
-        for (i = 0; i < WORKS; i++) printf("%s %s\n", works[i].name, works[i].third ? works[i].third : works[i].entries ? "read" : "record");
+        for (i = 0; i < WORKS; i++) {
+            const work *w = &works[i];
+            printf("%s %s\n", w->name, w->third ? w->third : w->search ? "radio_find" : w->entries ? "read" : "record");
+        }
         return 0;
     }
     if (argc == 3 && !strcmp(argv[1], "counts")) {
@@ -299,6 +366,9 @@ int main(int argc, char **argv)
                     if (works[i].third) {
                         make_rows();
                         third_once(&works[i], who, atol(argv[4]));
+                    } else if (works[i].search) {
+                        make_received(&works[i]);
+                        find_once(&works[i], who, atol(argv[4]));
                     } else if (works[i].entries) {
                         make_images(&works[i], 2);
                         read_once(&works[i], who, atol(argv[4]));
@@ -307,7 +377,10 @@ int main(int argc, char **argv)
                 }
         return 2;
     }
-    if (argc != 4 || strcmp(argv[1], "time")) { fprintf(stderr, "bench time COUNTS ROUNDS | bench counts COUNTS | bench count WORK WHO N | bench works\n"); return 2; }
+    if (argc != 4 || strcmp(argv[1], "time")) {
+        fprintf(stderr, "bench time COUNTS ROUNDS | bench counts COUNTS | bench count WORK WHO N | bench works\n");
+        return 2;
+    }
     for (k = 0; k < DDS_RECORD_MOST; k++) source[k] = (uint8_t)(k * 7);
     load_counts(argv[2]);
     for (i = 0; i < WORKS; i++) measure(i, works[i].length > BYTES ? atoi(argv[3]) / 3 + 1 : atoi(argv[3]));

@@ -12,6 +12,7 @@
 enum { TOTAL = 1, SEPARATOR, MIDDLE, START, LAST, ENTIRE, SKIP };
 enum { FREE, INSIDE, OWED, PARTED, ENDED }; /* the last two within a group: after a start or middle, after a last */
 enum { STANDARD = 126632, LONGEST = 16777215, NO_NUMBER = 65536 };
+enum { READER_LEN = 16, WRITER_LEN = 32, ANSWER_LEN = 24 };
 
 /* a number from or to its four bytes, most significant first, moved as one word */
 static inline uint32_t turned(uint32_t n)
@@ -70,14 +71,14 @@ static uint32_t start(uint32_t size, uint32_t first, uint8_t *state, size_t len,
 
 uint32_t CALL(reader_start)(uint32_t size, uint32_t first, uint8_t *state, size_t state_len, uint8_t *answer, size_t answer_len)
 {
-    if (state_len != 16 || answer_len != 24) return 1;
-    return start(size, first, state, 16, answer);
+    if (state_len != READER_LEN || answer_len != ANSWER_LEN) return 1;
+    return start(size, first, state, READER_LEN, answer);
 }
 
 uint32_t CALL(writer_start)(uint32_t size, uint32_t first, uint8_t *state, size_t state_len, uint8_t *answer, size_t answer_len)
 {
-    if (state_len != 32 || answer_len != 24) return 1;
-    return start(size, first, state, 32, answer);
+    if (state_len != WRITER_LEN || answer_len != ANSWER_LEN) return 1;
+    return start(size, first, state, WRITER_LEN, answer);
 }
 
 /* ---- Reading */
@@ -170,7 +171,7 @@ uint32_t CALL(read)(uint8_t *state, size_t state_len, const uint8_t *group, size
                     uint8_t *rows, size_t rows_len, uint8_t *answer, size_t answer_len)
 {
     uint32_t size, next, phase, sum, place, refusal;
-    if (state_len != 16 || answer_len != 24) return 1;
+    if (state_len != READER_LEN || answer_len != ANSWER_LEN) return 1;
     size = load32(state);
     next = load32(state + 4);
     phase = load32(state + 8);
@@ -267,7 +268,7 @@ uint32_t CALL(record)(uint8_t *state, size_t state_len, uint8_t *group, size_t g
     writer w;
     uint32_t n, refusal;
     int32_t r;
-    if (state_len != 32 || answer_len != 24) return 1;
+    if (state_len != WRITER_LEN || answer_len != ANSWER_LEN) return 1;
     refusal = unfit(&w, state, group_len, warn);
     if (refusal) return refuse(answer, refusal, 0);
     if (w.next == NO_NUMBER) return refuse(answer, 14, 0);
@@ -309,7 +310,7 @@ uint32_t CALL(separator)(uint8_t *state, size_t state_len, uint8_t *group, size_
 {
     writer w;
     uint32_t refusal;
-    if (state_len != 32 || answer_len != 24) return 1;
+    if (state_len != WRITER_LEN || answer_len != ANSWER_LEN) return 1;
     refusal = unfit(&w, state, group_len, warn);
     if (refusal) return refuse(answer, refusal, 0);
     if (w.next == NO_NUMBER) return refuse(answer, 14, 0);
@@ -326,7 +327,7 @@ uint32_t CALL(end)(uint8_t *state, size_t state_len, uint8_t *group, size_t grou
 {
     writer w;
     uint32_t refusal;
-    if (state_len != 32 || answer_len != 24) return 1;
+    if (state_len != WRITER_LEN || answer_len != ANSWER_LEN) return 1;
     refusal = unfit(&w, state, group_len, warn);
     if (refusal) return refuse(answer, refusal, 0);
     if (w.phase == INSIDE) return refuse(answer, 17, 0);

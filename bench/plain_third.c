@@ -9,6 +9,8 @@
 #define JOIN(prefix, name) JOINED(prefix, name)
 #define CALL(name) JOIN(PREFIX, name)
 
+enum { ANSWER_LEN = 24 };
+
 static const uint8_t powers[256] = {
     1, 2, 4, 8, 16, 32, 64, 128, 29, 58, 116, 232, 205, 135, 19, 38,
     76, 152, 45, 90, 180, 117, 234, 201, 143, 3, 6, 12, 24, 48, 96, 192,
@@ -73,7 +75,7 @@ static inline unsigned wrong_row(sums s)
 
 static uint32_t answered(uint8_t *answer, uint32_t refusal, uint32_t place)
 {
-    memset(answer, 0, 24);
+    memset(answer, 0, ANSWER_LEN);
     answer[3] = (uint8_t)refusal;
     answer[4] = (uint8_t)(place >> 24); answer[5] = (uint8_t)(place >> 16);
     answer[6] = (uint8_t)(place >> 8); answer[7] = (uint8_t)place;
@@ -87,7 +89,7 @@ uint32_t CALL(third_restore_two)(uint32_t row_len, uint32_t first, uint32_t seco
 {
     unsigned apart;
     size_t c, n = row_len;
-    if (answer_len != 24) return 1;
+    if (answer_len != ANSWER_LEN) return 1;
     if (rows_wrong(row_len, rows_len)) return answered(answer, 40, 0);
     if (first > 45 || second > 45) return answered(answer, 41, 0);
     if (first == second) return answered(answer, 42, 0);
@@ -109,7 +111,7 @@ uint32_t CALL(third_make)(uint32_t row_len, uint8_t *rows, size_t rows_len, uint
 uint32_t CALL(third_mend)(uint32_t row_len, uint8_t *rows, size_t rows_len, uint8_t *answer, size_t answer_len)
 {
     size_t c, n = row_len;
-    if (answer_len != 24) return 1;
+    if (answer_len != ANSWER_LEN) return 1;
     if (rows_wrong(row_len, rows_len)) return answered(answer, 40, 0);
     for (c = 0; c < n; c++)
         if (wrong_row(sums_of(rows + c, n)) == 47) return answered(answer, 43, (uint32_t)c);
