@@ -1,7 +1,7 @@
 /* Change request 2026-11 and source document 001 in plain C, in the documents' order. It is written to be read beside them, not
    to be fast: figure 46 is a table of fields, flags are looked at one by one, and the search counts zero bytes as they come in. */
 
-#include "loader_model.h"
+#include "model.h"
 
 typedef uint64_t num;
 
