@@ -19,7 +19,10 @@ static inline uint8_t *fenced(size_t len, int at_end)
 {
     size_t page = page_len(), inner = pages_len(len);
     uint8_t *p = mmap(0, inner + 2 * page, PROT_NONE, MAP_PRIVATE | MAP_ANONYMOUS, -1, 0);
-    if (p == MAP_FAILED || (inner && mprotect(p + page, inner, PROT_READ | PROT_WRITE))) { fprintf(stderr, "no memory\n"); exit(2); }
+    if (p == MAP_FAILED || (inner && mprotect(p + page, inner, PROT_READ | PROT_WRITE))) {
+        fprintf(stderr, "no memory\n");
+        exit(2);
+    }
     return at_end ? p + page + inner - len : p + page;
 }
 

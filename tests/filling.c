@@ -177,14 +177,16 @@ static void separators_standard(void)
     uint32_t k, good = 1;
     desk s = writer(126632, 9, 0, 0, 0, 0, 0, 0);
     for (k = 1; k <= 31649; k++) {
-        good &= dds_separator(s.of[STATE].at, DDS_WRITER_LEN, s.of[GROUP].at, 126632, k % 2, 0, s.of[ANSWER].at, DDS_ANSWER_LEN) == 0;
+        good &= dds_separator(s.of[STATE].at, DDS_WRITER_LEN, s.of[GROUP].at, 126632, k % 2, 0, s.of[ANSWER].at,
+                              DDS_ANSWER_LEN) == 0;
         good &= get(s.of[ANSWER].at + DDS_ANSWER_OUTCOME) == 0 && get(entry(&s.of[GROUP], k)) == 0x07000000 + k % 2;
     }
     check((int)good, "31,649 separators", "each is laid");
     writer_is(&s, "31,649 separators", 126632, 9, 0, 0, 0, 31649, 0, 0);
     separates(&s, 0, 0);
     closed(&s, "31,649 separators", 9, 31650, 0);
-    check(get(s.of[GROUP].at) == 0x8001EEA8 && get(s.of[GROUP].at + 4) == 0x07000001, "31,649 separators", "the skip stands at 0");
+    check(get(s.of[GROUP].at) == 0x8001EEA8 && get(s.of[GROUP].at + 4) == 0x07000001, "31,649 separators",
+          "the skip stands at 0");
     leave(&s);
 }
 
@@ -204,13 +206,15 @@ static void owed_total(void)
         s = writer(64, 3, 2, 45, 0, 0, 0, 0);
         ends(&s, warn);
         closed(&s, "reading 22: end", 3, 2, 0);
-        slice_is(&s, GROUP, "reading 22: end", warn ? "00*24 88 00 00 40 09 00 00 2D EE*32" : "00*24 80 00 00 40 01 00 00 2D EE*32");
+        slice_is(&s, GROUP, "reading 22: end",
+                 warn ? "00*24 88 00 00 40 09 00 00 2D EE*32" : "00*24 80 00 00 40 01 00 00 2D EE*32");
         writer_is(&s, "reading 22: end", 64, 4, 0, 0, 0, 0, 0, 0);
         leave(&s);
         s = writer(64, 3, 2, 45, 0, 0, 0, 0);
         separates(&s, 1, warn);
         finished(&s, "reading 22: separator");
-        slice_is(&s, GROUP, "reading 22: separator", warn ? "EE*24 0F 00 00 01 09 00 00 2D EE*32" : "EE*24 07 00 00 01 01 00 00 2D EE*32");
+        slice_is(&s, GROUP, "reading 22: separator",
+                 warn ? "EE*24 0F 00 00 01 09 00 00 2D EE*32" : "EE*24 07 00 00 01 01 00 00 2D EE*32");
         writer_is(&s, "reading 22: separator", 64, 3, 0, 0, 0, 2, warn, 0);
         leave(&s);
     }
@@ -298,7 +302,8 @@ static void early_warning(void)
     refused(&s, "reading 26: a refused call keeps b4 as it was", 18, 0);
     ends(&s, 0);
     closed(&s, "reading 25: to the close", 4, 5, 0);
-    slice_is(&s, GROUP, "reading 25: the skip with them", "01-03 00*9 88 00 00 3D 6B 00 00 03 0F 00 00 00 0F 00 00 01 07 00 00 00 EE*32");
+    slice_is(&s, GROUP, "reading 25: the skip with them",
+             "01-03 00*9 88 00 00 3D 6B 00 00 03 0F 00 00 00 0F 00 00 01 07 00 00 00 EE*32");
     writer_is(&s, "reading 25: cleared at the close", 64, 5, 0, 0, 0, 0, 0, 0);
     leave(&s);
     s = writer(64, 3, 0, 0, 20, 1, 0, 0);

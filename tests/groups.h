@@ -42,8 +42,8 @@ static inline desk reader(uint32_t size, uint32_t next, uint32_t phase, uint32_t
     return d;
 }
 
-static inline desk writer(uint32_t size, uint32_t next, uint32_t phase, uint32_t sum, uint32_t data, uint32_t entries, uint32_t b4,
-                          uint32_t rest)
+static inline desk writer(uint32_t size, uint32_t next, uint32_t phase, uint32_t sum, uint32_t data, uint32_t entries,
+                          uint32_t b4, uint32_t rest)
 {
     desk d = desk_for(RECORD);
     relend(&d.of[GROUP], size < 200000 ? size : 64);

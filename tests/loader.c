@@ -122,7 +122,7 @@ static void volume_order(void)
 
 /* ---- Tape Alert flags */
 
-/* the flags of these bytes read, then made of their two numbers: how many, the lowest and the numbers are told, and the bytes made */
+/* these bytes read, then made of their two numbers: both tell how many flags are raised, the lowest and the numbers */
 static void flags_are(const char *name, const uint8_t *alert, uint32_t raised, uint32_t lowest, uint32_t high, uint32_t low)
 {
     desk d = desk_for(ALERT_READ);
@@ -142,7 +142,8 @@ static void alerts(void)
         { "00*8", 0, 0, 0, 0 }, { "80 00*7", 1, 1, 0x80000000, 0 }, { "00*7 01", 1, 64, 0, 1 },
         { "00*3 01 00*4", 1, 32, 1, 0 }, { "00*4 80 00*3", 1, 33, 0, 0x80000000 },
         { "00 10 00*4 01 00", 2, 12, 0x00100000, 0x00000100 }, { "FF*8", 64, 1, 0xFFFFFFFF, 0xFFFFFFFF },
-        { "7F FF*7", 63, 2, 0x7FFFFFFF, 0xFFFFFFFF }, { "00*4 FF*4", 32, 33, 0, 0xFFFFFFFF }, { "AA*8", 32, 1, 0xAAAAAAAA, 0xAAAAAAAA },
+        { "7F FF*7", 63, 2, 0x7FFFFFFF, 0xFFFFFFFF }, { "00*4 FF*4", 32, 33, 0, 0xFFFFFFFF },
+        { "AA*8", 32, 1, 0xAAAAAAAA, 0xAAAAAAAA },
         { "55*8", 32, 2, 0x55555555, 0x55555555 }, { "00*7 FF", 8, 57, 0, 0xFF },
     };
     size_t i, len;
@@ -176,7 +177,8 @@ static void messages(void)
     static const struct { const char *bytes; uint32_t found, place; } rows[] = {
         { "00 00 00 B2 4D 04", 1, 2 }, { "00 00 00 B2 4D 14 00*22", 1, 2 }, { "FF 00*5 B2 4D 14 00", 1, 5 },
         { "00 00 00 B2 4D", 0, 0 }, { "00 00 00 B2", 0, 0 }, { "00 00 B2 4D 04", 0, 0 }, { "01 00 00 B2 4D 04", 0, 0 },
-        { "00 01 00 B2 4D 04", 0, 0 }, { "00 00 01 B2 4D 04", 0, 0 }, { "00 00 00 B3 4D 04", 0, 0 }, { "00 00 00 B2 4C 04", 0, 0 },
+        { "00 01 00 B2 4D 04", 0, 0 }, { "00 00 01 B2 4D 04", 0, 0 }, { "00 00 00 B3 4D 04", 0, 0 },
+        { "00 00 00 B2 4C 04", 0, 0 },
         { "00 00 00 B2 00 00 00 B2 4D 04", 1, 6 }, { "00 00 00 B2 4D 00 00 00 B2 4D 04", 1, 2 },
         { "00 00 B2 4D 00 00 00 B2 4D FF", 1, 6 }, { "00*300 B2 4D 00", 1, 299 }, { "00*300 B2 4D", 0, 0 }, { "00*64", 0, 0 },
         { "B2 4D 04", 0, 0 }, { "00 00 00 00 00", 0, 0 }, { "00", 0, 0 }, { "", 0, 0 },

@@ -1,5 +1,6 @@
 /* The AIT loader's memory at random, compared with the model: volumes made of right and wrong fields, read whole and with a few
-   bytes changed; flags; received bytes that hold whole, cut and nearly right starts. COUNT is how many of each: loader_random [COUNT]. */
+   bytes changed; flags; received bytes that hold whole, cut and nearly right starts. COUNT is how many of each:
+   loader_random [COUNT]. */
 
 #include "pair.h"
 
@@ -70,6 +71,9 @@ int main(int argc, char **argv)
     leave(&alert);
     leave(&radio);
     came_up(count, 2000, sizeof refusals / sizeof *refusals, refusals);
-    if (count >= 2000 && (finds < count / 20 || finds > count - count / 20)) { fprintf(stderr, "  found %ld of %ld\n", finds, count); failures++; }
+    if (count >= 2000 && (finds < count / 20 || finds > count - count / 20)) {
+        fprintf(stderr, "  found %ld of %ld\n", finds, count);
+        failures++;
+    }
     return finish_pairs("loader_random");
 }

@@ -70,8 +70,8 @@ static inline void differs(const desk *d, int call, const uint32_t *numbers, con
 {
     size_t i;
     if (failures++ >= 10) return;
-    fprintf(stderr, "  %s (%s: %u, %u, %u) after %ld calls: %s differs; library %u, model %u", calls[call].name, calls[call].numbers,
-            numbers[0], numbers[1], numbers[2], compared, what, library, model);
+    fprintf(stderr, "  %s (%s: %u, %u, %u) after %ld calls: %s differs; library %u, model %u", calls[call].name,
+            calls[call].numbers, numbers[0], numbers[1], numbers[2], compared, what, library, model);
     if (d->of[STATE].base) fprintf(stderr, "; state after, model:");
     for (i = 0; i + 4 <= d->of[STATE].len; i += 4) fprintf(stderr, " %u", get(twin_at(&d->of[STATE]) + i));
     fprintf(stderr, "\n");

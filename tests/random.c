@@ -8,7 +8,8 @@
 static uint32_t bound(void)
 {
     static const uint32_t bounds[] = { 0, 1, 2, 3, 20, 24, 28, 32, 40, 44, 63, 64, 65, 255, 256, 4096, 31649, 65535, 65536, 65537,
-        126592, 126632, 126633, 16777213, 16777214, 16777215, 16777216, 0x3FFFFFFF, 0x40000000, 0x80000000, 0xFFFFFFD8, 0xFFFFFFFF };
+        126592, 126632, 126633, 16777213, 16777214, 16777215, 16777216, 0x3FFFFFFF, 0x40000000, 0x80000000, 0xFFFFFFD8,
+        0xFFFFFFFF };
     uint32_t n = bounds[below(sizeof bounds / sizeof *bounds)];
     switch (below(6)) {
     case 0: return rnd();
@@ -85,7 +86,8 @@ static void lawful(uint8_t *group, uint32_t size, uint32_t n, uint32_t phase, ui
 
 static void spoil(uint8_t *group, uint32_t size, uint32_t n)
 {
-    static const uint8_t flags[] = { 0x01, 0x07, 0x40, 0x42, 0x60, 0x63, 0x80, 0x09, 0x0F, 0x48, 0x4A, 0x68, 0x6B, 0x88, 0x43, 0x00 };
+    static const uint8_t flags[] = { 0x01, 0x07, 0x40, 0x42, 0x60, 0x63, 0x80, 0x09, 0x0F, 0x48, 0x4A, 0x68, 0x6B, 0x88, 0x43,
+        0x00 };
     uint32_t times = 1 + below(2), k, j;
     while (times--) {
         uint8_t *e = group + size - 32 - 4 * (k = 1 + below(n)), *f = group + size - 32 - 4 * (j = 1 + below(n)), swap[4];
@@ -159,7 +161,8 @@ static void reads_some(desk *d, long count)
 static uint32_t some_data(const desk *d, uint32_t size)
 {
     uint32_t phase = field(d, DDS_STATE_PHASE);
-    int64_t room = (int64_t)size - 40 - 4 * ((int64_t)field(d, DDS_STATE_ENTRIES) + (phase == DDS_PHASE_OWED)) - field(d, DDS_STATE_DATA);
+    int64_t entries = (int64_t)field(d, DDS_STATE_ENTRIES) + (phase == DDS_PHASE_OWED);
+    int64_t room = (int64_t)size - 40 - 4 * entries - field(d, DDS_STATE_DATA);
     if (phase == DDS_PHASE_INSIDE && !one_in(10)) return field(d, DDS_STATE_REST);
     if (one_in(2)) return below(3 * size);
     return (uint32_t)(room < 2 ? below(4) : (uint64_t)room + below(4) - 2);
@@ -192,7 +195,8 @@ static void starts_some(desk *d, long count)
         some_state(d, writes ? DDS_WRITER_LEN : DDS_READER_LEN, some_size());
         fill(&d->of[STATE]);
         wrong_lengths(d);
-        both(d, writes ? WRITER_START : READER_START, one_in(2) ? bound() : some_size(), one_in(2) ? bound() : 1 + below(65535), 0);
+        both(d, writes ? WRITER_START : READER_START, one_in(2) ? bound() : some_size(),
+             one_in(2) ? bound() : 1 + below(65535), 0);
     }
 }
 

@@ -235,7 +235,8 @@ static void follow(void)
     static const uint32_t one[8] = { 0, 0x0100000A, 0x07000001, 0x40000001, 0x42000001, 0x60000001, 0x63000001, 0x80000000 };
     static const struct { const char *name, *allowed; uint32_t phase, before; } places[] = {
         { "free", "2467", 0, 0 }, { "inside", "35", 1, 0 }, { "owed", "1", 2, 0 }, { "after total", "2467", 2, 0x0100000A },
-        { "after separator", "2467", 0, 0x07000000 }, { "after entire", "2467", 0, 0x63000001 }, { "after start", "7", 0, 0x42000001 },
+        { "after separator", "2467", 0, 0x07000000 }, { "after entire", "2467", 0, 0x63000001 },
+        { "after start", "7", 0, 0x42000001 },
         { "after middle", "7", 1, 0x40000001 }, { "after last", "17", 1, 0x60000001 },
     };
     size_t i;
@@ -278,9 +279,11 @@ static void largest_table(void)
     reads(&s, 7, 31650);
     finished(&s, "31,650 entries");
     reader_is(&s, "31,650 entries", 126632, 8, 0, 0);
-    for (k = 1; k < 31650; k++)
-        check(get(s.of[ROWS].at + 12 * k - 12) == 2 && get(s.of[ROWS].at + 12 * k - 8) == 0 && get(s.of[ROWS].at + 12 * k - 4) == k % 2, "31,650 entries", "row");
-    check(get(s.of[ROWS].at + 379788) == 7 && get(s.of[ROWS].at + 379792) == 0 && get(s.of[ROWS].at + 379796) == 126632, "31,650 entries", "skip");
+    for (k = 1; k <= 31650; k++) {
+        const uint8_t *row = s.of[ROWS].at + DDS_ROW_LEN * (k - 1);
+        int same = k < 31650 ? get(row) == 2 && get(row + 8) == k % 2 : get(row) == 7 && get(row + 8) == 126632;
+        check(same && get(row + 4) == 0, "31,650 entries", "row");
+    }
     leave(&s);
 }
 

@@ -251,7 +251,8 @@ static void end_order(void)
     for (phase = 0; phase < 3; phase++)
         for (none = 0; none < 2; none++)
             for (faults = 0; faults < 8; faults++) {
-                desk s = writer(64, none ? 65536 : 9, phase, phase * 40, 0, 0, 0, (phase == 1 ? 30 : 0) + (faults & 1 ? 16777215 : 0));
+                uint32_t rest = (phase == 1 ? 30 : 0) + (faults & 1 ? 16777215 : 0);
+                desk s = writer(64, none ? 65536 : 9, phase, phase * 40, 0, 0, 0, rest);
                 if (faults & 4) relend(&s.of[GROUP], 65);
                 ends(&s, faults & 2 ? 2 : 0);
                 for (i = 0; i < 3 && !(faults >> i & 1); i++) { }

@@ -110,7 +110,10 @@ static void reads_back(desk *d, uint32_t size, uint32_t first)
         memset(d->of[ROWS].at, (int)below(256), d->of[ROWS].len);
         memcpy(d->of[GROUP].at, groups[g].image, size);
         if (g + 1 < group_count && both(d, READ, groups[g + 1].number, groups[g].entries, 0) != 5) failed("a later number", g, 0);
-        if (both(d, READ, groups[g].number, groups[g].entries, 0)) { failed("a written group was refused", get(d->of[ANSWER].at), g); return; }
+        if (both(d, READ, groups[g].number, groups[g].entries, 0)) {
+            failed("a written group was refused", d->refusal, g);
+            return;
+        }
         for (k = 0; k < groups[g].entries; k++) {
             const uint8_t *row = d->of[ROWS].at + 12 * k;
             uint32_t kind = get(row), offset = get(row + 4), count = get(row + 8);
@@ -126,11 +129,15 @@ static void reads_back(desk *d, uint32_t size, uint32_t first)
                 }
                 so_far += count;
             }
-            if ((kind == 1 || kind == 6) && (so_far != it->count || (kind == 1 && count != it->count))) { failed("record length", so_far, it->count); return; }
+            if ((kind == 1 || kind == 6) && (so_far != it->count || (kind == 1 && count != it->count))) {
+                failed("record length", so_far, it->count);
+                return;
+            }
             if (kind == 1 || kind == 2 || kind == 6) { done++; so_far = 0; }
         }
         phase = phase_of(d);
-        if ((phase == DDS_PHASE_FREE) != (so_far == 0) || get(d->of[STATE].at + DDS_STATE_SUM) != so_far) failed("sum of an open record", phase, so_far);
+        if ((phase == DDS_PHASE_FREE) != (so_far == 0) || get(d->of[STATE].at + DDS_STATE_SUM) != so_far)
+            failed("sum of an open record", phase, so_far);
     }
     if (done != laid) failed("less was read than was written", done, laid);
 }

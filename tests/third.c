@@ -152,8 +152,8 @@ static void lengths(void)
 static void rows_named(void)
 {
     static const struct { uint32_t a, b, refusal; } pairs[] = {
-        { 46, 0, 41 }, { 0, 46, 41 }, { 50, 50, 41 }, { 0xFFFFFFFFu, 3, 41 }, { 3, 0x80000000u, 41 }, { 0, 0, 42 }, { 45, 45, 42 },
-        { 44, 44, 42 },
+        { 46, 0, 41 }, { 0, 46, 41 }, { 50, 50, 41 }, { 0xFFFFFFFFu, 3, 41 }, { 3, 0x80000000u, 41 }, { 0, 0, 42 },
+        { 45, 45, 42 }, { 44, 44, 42 },
     };
     size_t k;
     for (k = 0; k < sizeof pairs / sizeof *pairs; k++) {

@@ -1,5 +1,6 @@
 /* Tracks at random, compared with the model: makings with right and wrong Area IDs, Pack IDs and lengths; readings of tracks
-   that were made, of such tracks with a few bytes changed, and of random bytes. COUNT is how many of each: track_random [COUNT]. */
+   that were made, of such tracks with a few bytes changed, and of random bytes. COUNT is how many of each:
+   track_random [COUNT]. */
 
 #include "pair.h"
 

@@ -4,154 +4,194 @@
 
 #include "guard.h"
 
-#define ANSWER_LENT answer, DDS_ANSWER_LEN
+/* ---- Spans of memory that was never written, by the names of slices */
 
-static uint8_t answer[DDS_ANSWER_LEN];
-
-/* bytes that were never written; volatile, so that the compiler does not know it */
-static uint8_t *unwritten(size_t len)
+/* volatile, so that the compiler does not know it */
+static void lend_unwritten(span *lent, int which, size_t len)
 {
     uint8_t *volatile never = memory(len);
-    return never;
+    free(lent[which].at);
+    lent[which].at = never;
+    lent[which].len = len;
+}
+
+/* all slices of a call that have a length of their own */
+static void lend_call(span *lent, int call)
+{
+    const lent_slice *s;
+    for (s = calls[call].slices; s->which; s++) if (own_length(s)) lend_unwritten(lent, s->which, own_length(s));
+}
+
+static void free_all(span *lent)
+{
+    int i;
+    for (i = 0; i < SLICES; i++) free(lent[i].at);
 }
 
 /* bytes that were written are made such bytes again */
 static void unwrite(uint8_t *at, size_t len)
 {
-    uint8_t *never = unwritten(len);
-    memcpy(at, never, len);
-    free(never);
+    span never[SLICES] = { { 0, 0 } };
+    lend_unwritten(never, DATA, len);
+    memcpy(at, never[DATA].at, len);
+    free_all(never);
 }
 
-static void returns(uint32_t returned, uint32_t wanted, const char *call)
+/* the call, over an answer that was never written */
+static void returns(uint32_t wanted, span *lent, int call, uint32_t a, uint32_t b, uint32_t c)
 {
-    check(returned == wanted, call, wanted ? "refused" : "accepted");
-    unwrite(answer, sizeof answer);
+    const uint32_t numbers[MOST_NUMBERS] = { a, b, c };
+    lend_unwritten(lent, ANSWER, DDS_ANSWER_LEN);
+    check(calls[call].library(numbers, lent) == wanted, calls[call].name, wanted ? "refused" : "accepted");
 }
 
 /* ---- Groups */
 
-/* a start writes its state without a look at it, and leaves it so where it is refused */
-static void starts(uint32_t size, uint8_t *reader, uint8_t *writer)
+static void starts(span *lent, int call, uint32_t size)
 {
-    returns(dds_reader_start(63, 1, reader, DDS_READER_LEN, ANSWER_LENT), 2, "dds_reader_start");
-    returns(dds_writer_start(size, 0, writer, DDS_WRITER_LEN, ANSWER_LENT), 3, "dds_writer_start");
-    returns(dds_reader_start(size, 1, reader, DDS_READER_LEN - 1, ANSWER_LENT), 1, "dds_reader_start");
-    returns(dds_writer_start(size, 1, writer, DDS_WRITER_LEN + 1, ANSWER_LENT), 1, "dds_writer_start");
-    returns(dds_reader_start(size, 1, reader, DDS_READER_LEN, ANSWER_LENT), 0, "dds_reader_start");
-    returns(dds_writer_start(size, 1, writer, DDS_WRITER_LEN, ANSWER_LENT), 0, "dds_writer_start");
+    lend_call(lent, call);
+    returns(2, lent, call, 63, 1, 0);
+    returns(3, lent, call, size, 0, 0);
+    lent[STATE].len--;
+    returns(1, lent, call, size, 1, 0);
+    lent[STATE].len++;
+    returns(0, lent, call, size, 1, 0);
 }
 
-typedef struct { uint8_t *state, *rows; uint32_t size; size_t rows_len; } reading;
-
-/* where the last call closed a group, that group is read; then it is a buffer that was never written */
-static int read_closed(const reading *r, uint8_t *group)
+/* where the last call of the writing closed a group, it is read; then the writing has a group and the reading rows anew */
+static int read_closed(span *writing, span *reading)
 {
+    const uint8_t *answer = writing[ANSWER].at;
+    size_t size = writing[GROUP].len;
     uint32_t number = get(answer + DDS_ANSWER_NUMBER), entries = get(answer + DDS_ANSWER_ENTRIES);
     if (get(answer + DDS_ANSWER_OUTCOME) != DDS_OUTCOME_CLOSED) return 0;
-    unwrite(answer, sizeof answer);
-    returns(dds_read(r->state, DDS_READER_LEN, group, r->size, number + 1, entries, r->rows, r->rows_len, ANSWER_LENT), 5, "dds_read");
-    returns(dds_read(r->state, DDS_READER_LEN, group, r->size, number, entries, r->rows, r->rows_len, ANSWER_LENT), 0, "dds_read");
-    unwrite(group, r->size);
-    unwrite(r->rows, r->rows_len);
+    free(reading[GROUP].at);
+    reading[GROUP] = writing[GROUP];
+    writing[GROUP].at = 0;
+    lend_unwritten(writing, GROUP, size);
+    lend_unwritten(reading, ROWS, DDS_ROW_LEN * (size_t)entries);
+    returns(5, reading, READ, number + 1, entries, 0);
+    returns(0, reading, READ, number, entries, 0);
     return 1;
 }
 
 /* records, separators and an end over groups of this size, written and read back */
 static void run_of(uint32_t size)
 {
-    uint8_t *writer = unwritten(DDS_WRITER_LEN), *group = unwritten(size), *data = unwritten(3 * size);
-    reading r = { unwritten(DDS_READER_LEN), 0, size, DDS_ROW_LEN * (size_t)(size / DDS_ENTRY_LEN) };
-    uint32_t k, n, groups = 0;
-    r.rows = unwritten(r.rows_len);
-    starts(size, r.state, writer);
+    span writing[SLICES] = { { 0, 0 } }, reading[SLICES] = { { 0, 0 } };
+    uint32_t k;
+    int groups = 0;
+    starts(writing, WRITER_START, size);
+    starts(reading, READER_START, size);
+    lend_unwritten(writing, GROUP, size);
     for (k = 0; k < 8; k++) {
-        int inside = get(writer + DDS_STATE_PHASE) == DDS_PHASE_INSIDE;
-        n = inside ? get(writer + DDS_STATE_REST) : k < 3 ? 3 * size - 200 / (k + 1) : 5;
-        check(dds_record(writer, DDS_WRITER_LEN, group, size, data, n < 3 * size ? n : 3 * size, k == 6, ANSWER_LENT) == 0, "dds_record",
-              "accepted");
-        groups += read_closed(&r, group);
-        if (get(writer + DDS_STATE_PHASE) == DDS_PHASE_INSIDE) continue;
-        check(dds_separator(writer, DDS_WRITER_LEN, group, size, k % 2, 0, ANSWER_LENT) == 0, "dds_separator", "accepted");
-        groups += read_closed(&r, group);
-        returns(dds_separator(writer, DDS_WRITER_LEN, group, size, 2, 0, ANSWER_LENT), 18, "dds_separator");
+        int inside = get(writing[STATE].at + DDS_STATE_PHASE) == DDS_PHASE_INSIDE;
+        lend_unwritten(writing, DATA, inside ? get(writing[STATE].at + DDS_STATE_REST) : k < 3 ? 3 * size - 100 : 5);
+        returns(0, writing, RECORD, k == 6, 0, 0);
+        groups += read_closed(writing, reading);
+        if (get(writing[STATE].at + DDS_STATE_PHASE) == DDS_PHASE_INSIDE) continue;
+        returns(0, writing, SEPARATOR, k % 2, 0, 0);
+        groups += read_closed(writing, reading);
+        returns(18, writing, SEPARATOR, 2, 0, 0);
     }
-    check(dds_end(writer, DDS_WRITER_LEN, group, size, 0, ANSWER_LENT) == 0, "dds_end", "accepted");
-    groups += read_closed(&r, group);
+    returns(0, writing, END, 0, 0, 0);
+    groups += read_closed(writing, reading);
     check(groups >= 3, "groups", "three or more are closed");
-    free(writer); free(r.state); free(group); free(data); free(r.rows);
+    free_all(writing);
+    free_all(reading);
 }
 
-/* a group of which only the table was ever written: an entire record of 3 bytes, a gap, and a skip that is right or wrong */
+/* a group of which only the table was ever written: an entire record of 3 bytes, a gap, and a skip, wrong and then right */
 static void table_alone(void)
 {
-    uint8_t *reader = unwritten(DDS_READER_LEN), *group = unwritten(64), *rows = unwritten(2 * DDS_ROW_LEN);
-    put(group + 28, 0x63000003);
-    put(group + 24, 0x8000003C);
-    returns(dds_reader_start(64, 7, reader, DDS_READER_LEN, ANSWER_LENT), 0, "dds_reader_start");
-    returns(dds_read(reader, DDS_READER_LEN, group, 64, 7, 2, rows, 2 * DDS_ROW_LEN, ANSWER_LENT), 13, "dds_read");
-    put(group + 24, 0x8000003D);
-    returns(dds_read(reader, DDS_READER_LEN, group, 64, 7, 2, rows, 2 * DDS_ROW_LEN, ANSWER_LENT), 0, "dds_read");
-    check(get(rows) == 6 && get(rows + 8) == 3 && get(rows + 12) == 7 && get(rows + 20) == 61, "dds_read", "rows");
-    free(reader); free(group); free(rows);
+    span lent[SLICES] = { { 0, 0 } };
+    starts(lent, READER_START, 64);
+    lend_unwritten(lent, GROUP, 64);
+    lend_unwritten(lent, ROWS, 2 * DDS_ROW_LEN);
+    put(lent[GROUP].at + 28, 0x63000003);
+    put(lent[GROUP].at + 24, 0x8000003C);
+    returns(13, lent, READ, 1, 2, 0);
+    put(lent[GROUP].at + 24, 0x8000003D);
+    returns(0, lent, READ, 1, 2, 0);
+    check(get(lent[ROWS].at) == 6 && get(lent[ROWS].at + 8) == 3 && get(lent[ROWS].at + 12) == 7, "dds_read", "rows");
+    free_all(lent);
 }
 
 /* ---- A track, and a loader's memory */
 
 static void track(uint8_t pack)
 {
-    uint8_t packs[DDS_PACKS_LEN], *packs_read = unwritten(DDS_PACKS_LEN), *items = unwritten(DDS_ITEMS_LEN);
-    uint8_t *made = unwritten(DDS_TRACK_LEN), *numbers = unwritten(DDS_NUMBERS_LEN);
-    memset(packs, pack, sizeof packs);
-    returns(dds_subdata_make(8, 80, packs, DDS_PACKS_LEN, items, DDS_ITEMS_LEN, made, DDS_TRACK_LEN, numbers, DDS_NUMBERS_LEN, ANSWER_LENT),
-            32, "dds_subdata_make");
-    returns(dds_subdata_make(12, 80, packs, DDS_PACKS_LEN, items, DDS_ITEMS_LEN, made, DDS_TRACK_LEN, numbers, DDS_NUMBERS_LEN, ANSWER_LENT),
-            0, "dds_subdata_make");
-    unwrite(items, DDS_ITEMS_LEN);
-    unwrite(numbers, DDS_NUMBERS_LEN);
-    returns(dds_subdata_read(12, 80, made, DDS_TRACK_LEN, packs_read, DDS_PACKS_LEN, items, DDS_ITEMS_LEN, numbers, DDS_NUMBERS_LEN,
-                             ANSWER_LENT), 0, "dds_subdata_read");
-    check(memcmp(packs, packs_read, sizeof packs) == 0, "dds_subdata_read", "Pack IDs");
-    free(packs_read); free(items); free(made); free(numbers);
+    span lent[SLICES] = { { 0, 0 } };
+    lend_call(lent, SUBDATA_MAKE);
+    memset(lent[PACKS].at, pack, DDS_PACKS_LEN);
+    returns(32, lent, SUBDATA_MAKE, 8, 80, 0);
+    returns(0, lent, SUBDATA_MAKE, 12, 80, 0);
+    unwrite(lent[PACKS].at, DDS_PACKS_LEN);
+    unwrite(lent[ITEMS].at, DDS_ITEMS_LEN);
+    unwrite(lent[NUMBERS].at, DDS_NUMBERS_LEN);
+    returns(32, lent, SUBDATA_READ, 13, 80, 0);
+    returns(0, lent, SUBDATA_READ, 12, 80, 0);
+    check(lent[PACKS].at[0] == pack && lent[PACKS].at[7] == pack, "dds_subdata_read", "Pack IDs");
+    free_all(lent);
 }
 
-/* of the fields only thickness and flags are looked at */
+/* of a volume's fields only thickness and flags are looked at; a length byte is found, whatever it holds */
 static void loader(void)
 {
-    uint8_t *fields = unwritten(DDS_FIELDS_LEN), *volume = unwritten(DDS_VOLUME_LEN), *alert = unwritten(DDS_ALERT_LEN);
-    uint8_t received[] = { 0x00, 0x00, 0x00, 0xB2, 0x4D, 0x04 };
-    fields[DDS_FIELD_THICKNESS] = 0x2E;
-    fields[DDS_FIELD_FLAGS] = 0x10;
-    returns(dds_volume_make(fields, DDS_FIELDS_LEN, volume, DDS_VOLUME_LEN, ANSWER_LENT), 0, "dds_volume_make");
-    unwrite(fields, DDS_FIELDS_LEN);
-    returns(dds_volume_read(volume, DDS_VOLUME_LEN, fields, DDS_FIELDS_LEN, ANSWER_LENT), 0, "dds_volume_read");
-    returns(dds_alert_make(1, 2, alert, DDS_ALERT_LEN, ANSWER_LENT), 0, "dds_alert_make");
-    returns(dds_alert_read(alert, DDS_ALERT_LEN, ANSWER_LENT), 0, "dds_alert_read");
-    unwrite(received + 5, 1); /* a length byte is found, whatever it holds */
-    check(dds_radio_find(received, sizeof received, ANSWER_LENT) == 0 && get(answer + DDS_ANSWER_LENGTH_AT) == 5, "dds_radio_find", "found");
-    free(fields); free(volume); free(alert);
+    span lent[SLICES] = { { 0, 0 } };
+    lend_call(lent, VOLUME_MAKE);
+    lend_call(lent, ALERT_MAKE);
+    lent[FIELDS].at[DDS_FIELD_THICKNESS] = 0x2E;
+    lent[FIELDS].at[DDS_FIELD_FLAGS] = 0x10;
+    returns(0, lent, VOLUME_MAKE, 0, 0, 0);
+    unwrite(lent[FIELDS].at, DDS_FIELDS_LEN);
+    returns(0, lent, VOLUME_READ, 0, 0, 0);
+    returns(0, lent, ALERT_MAKE, 1, 2, 0);
+    returns(0, lent, ALERT_READ, 0, 0, 0);
+    lend_unwritten(lent, RECEIVED, 6);
+    put(lent[RECEIVED].at, 0x000000B2);
+    lent[RECEIVED].at[4] = 0x4D;
+    returns(0, lent, RADIO_FIND, 0, 0, 0);
+    check(get(lent[ANSWER].at + DDS_ANSWER_LENGTH_AT) == 5, "dds_radio_find", "found");
+    free_all(lent);
 }
 
-/* ---- The third code: the answers */
+/* ---- The third code */
 
 enum { ROW_LEN = 7, ROWS_LEN = 46 * ROW_LEN };
 
+static void lose(span *lent, uint32_t row) { memset(lent[ROWS].at + row * ROW_LEN, 0x5A, ROW_LEN); }
+
 static void third(void)
 {
-    uint8_t rows[ROWS_LEN];
-    uint32_t i;
-    for (i = 0; i < ROWS_LEN; i++) rows[i] = (uint8_t)(i * i + 5 * i + 1);
-    returns(dds_third_make(ROW_LEN + 1, rows, ROWS_LEN, ANSWER_LENT), 40, "dds_third_make");
-    returns(dds_third_make(ROW_LEN, rows, ROWS_LEN, ANSWER_LENT), 0, "dds_third_make");
-    returns(dds_third_check(ROW_LEN, rows, ROWS_LEN, ANSWER_LENT), 0, "dds_third_check");
-    returns(dds_third_restore_one(ROW_LEN, 44, rows, ROWS_LEN, ANSWER_LENT), 0, "dds_third_restore_one");
-    returns(dds_third_restore_two(ROW_LEN, 3, 45, rows, ROWS_LEN, ANSWER_LENT), 0, "dds_third_restore_two");
-    returns(dds_third_mend(ROW_LEN, rows, ROWS_LEN, ANSWER_LENT), 0, "dds_third_mend");
+    span lent[SLICES] = { { 0, 0 } };
+    uint8_t whole[ROWS_LEN];
+    uint32_t i, j;
+    lend_unwritten(lent, ROWS, ROWS_LEN);
+    for (i = 0; i < ROWS_LEN; i++) lent[ROWS].at[i] = (uint8_t)(i * i + 5 * i + 1);
+    returns(40, lent, THIRD_MAKE, ROW_LEN + 1, 0, 0);
+    returns(0, lent, THIRD_MAKE, ROW_LEN, 0, 0);
+    memcpy(whole, lent[ROWS].at, ROWS_LEN);
+    returns(0, lent, THIRD_CHECK, ROW_LEN, 0, 0);
+    for (i = 0; i < 46; i++) {
+        lose(lent, i);
+        returns(0, lent, RESTORE_ONE, ROW_LEN, i, 0);
+        check(memcmp(lent[ROWS].at, whole, ROWS_LEN) == 0, "dds_third_restore_one", "rows as written");
+        for (j = (i + 1) % 46; j != i; j = (j + 1) % 46) {
+            lose(lent, i);
+            lose(lent, j);
+            returns(0, lent, RESTORE_TWO, ROW_LEN, i, j);
+            check(memcmp(lent[ROWS].at, whole, ROWS_LEN) == 0, "dds_third_restore_two", "rows as written");
+        }
+    }
+    lent[ROWS].at[3] ^= 0x40;
+    returns(0, lent, THIRD_MEND, ROW_LEN, 0, 0);
+    check(memcmp(lent[ROWS].at, whole, ROWS_LEN) == 0, "dds_third_mend", "rows as written");
+    free_all(lent);
 }
 
 int main(void)
 {
-    unwrite(answer, sizeof answer);
     run_of(64);
     run_of(4096);
     run_of(DDS_SIZE_STANDARD);
