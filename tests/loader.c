@@ -30,24 +30,6 @@ static void makes_volume(desk *d) { make(d, VOLUME_MAKE, 0, 0, 0); }
 static void reads_volume(desk *d) { make(d, VOLUME_READ, 0, 0, 0); }
 static void type_is(const desk *d, const char *name, uint32_t type) { answer_is(d, name, 0, 0, type, 0, 0, 0); }
 
-static void whole_volume(void)
-{
-    desk d = fields_lent();
-    makes_volume(&d);
-    type_is(&d, "volume", DDS_OUTCOME_TYPE_A);
-    slice_is(&d, VOLUME, "volume", VOLUME_BYTES);
-    d.of[FIELDS].at[2] = 0x6E; /* the same length, Type B */
-    makes_volume(&d);
-    type_is(&d, "volume, Type B", DDS_OUTCOME_TYPE_B);
-    slice_is(&d, VOLUME, "volume, Type B", "00*3 01 02 6E 10 03 A0-BF 00*32");
-    leave(&d);
-    d = volume_lent();
-    reads_volume(&d);
-    type_is(&d, "volume, read", DDS_OUTCOME_TYPE_A);
-    slice_is(&d, FIELDS, "volume, read", FIELD_BYTES);
-    leave(&d);
-}
-
 static uint32_t of_bytes(uint32_t thickness, uint32_t flags)
 {
     if (thickness >= 0x80) return 62;
@@ -225,7 +207,6 @@ static void received_lengths(void)
 
 int main(void)
 {
-    whole_volume();
     two_bytes();
     reserved();
     volume_order();

@@ -79,34 +79,6 @@ static void table_three(void)
     }
 }
 
-/* a whole track in the System Area's log, its Pack IDs mixed: all 560 bytes and all 64 numbers */
-static void whole_track(void)
-{
-    desk d = laid(7);
-    d.of[PACKS].at[1] = d.of[PACKS].at[7] = 6;
-    memset(d.of[ITEMS].at, 0x5A, 512);
-    makes(&d, 10, 72);
-    accepted(&d, "whole track");
-    slice_is(&d, TRACK, "whole track",
-             "A8 F0 58 5A*32, 00 81 81 5A*32, A8 E2 4A 5A*24 00*8, 00 83 83 5A*32, A8 F4 5C 5A*32, 00 85 85 5A*32,"
-             "A8 F6 5E 5A*32, 00 87 87 5A*32, A8 F8 50 5A*32, 00 89 89 5A*32, A8 FA 52 5A*32, 00 8B 8B 5A*32,"
-             "A8 FC 54 5A*32, 00 8D 8D 5A*32, A8 EE 46 5A*24 00*8, 00 8F 8F 5A*32");
-    {
-        size_t block;
-        for (block = 0; block < 16; block++) {
-            const uint8_t *n = d.of[NUMBERS].at + 16 * block;
-            check(get(n) == (block % 2 ? 6u : 5u) && get(n + 4) == (block % 2 ? 8u : 7u) && get(n + 8) == (block % 2 ? 4u : 3u)
-                  && get(n + 12) == 0, "whole track", "numbers");
-        }
-    }
-    blank(&d);
-    reads(&d, 10, 72);
-    accepted(&d, "whole track, read");
-    slice_is(&d, PACKS, "whole track, read", "07 06 07 07 07 07 07 06");
-    slice_is(&d, ITEMS, "whole track, read, the closes of Pack ID 6 zeros", "5A*88 00*8 5A*376 00*8 5A*32");
-    leave(&d);
-}
-
 /* ---- Making: 30, 32, 33 */
 
 static void make_refusals(void)
@@ -283,7 +255,6 @@ static void frames(void)
 int main(void)
 {
     table_three();
-    whole_track();
     make_refusals();
     read_order();
     read_refusals();
