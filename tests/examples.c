@@ -118,32 +118,21 @@ static void of_other_lengths(const example *e, const worked *w)
     }
 }
 
-/* lengths of 2^32 and more are not cut; in pages that are promised and not touched */
-static void of_long_lengths(const example *e, const worked *w)
+/* lengths of 2^32 and more are not cut */
+static void of_long_lengths(const example *e, const worked *w, uint8_t *promised)
 {
-#if SIZE_MAX > 0xFFFFFFFF
-    const size_t wide = (size_t)1 << 32;
-    uint8_t *none = promised(2 * wide, PROT_NONE);
     const lent_slice *s;
     size_t i;
-    if (!none) { printf("examples: slices above 2^32 bytes skipped, no address space\n"); return; }
-    for (s = calls[e->call].slices; s->which; s++) {
+    for (s = calls[e->call].slices; s->which && promised; s++) {
         const size_t more[] = { w->len[s->which], 0, 16, 20, 24, 32, 64 };
         for (i = 0; i < sizeof more / sizeof *more && s->length != ANY_LENGTH && s->length != AT_LEAST; i++) {
             desk d = lay(e, w, 0);
             give_back(&d.of[s->which]);
-            d.of[s->which].at = none;
-            d.of[s->which].len = wide + more[i];
+            d.of[s->which] = lend_promised(promised, wide + more[i]);
             is_refused(e, &d, s);
-            d.of[s->which] = lend_null();
             leave(&d);
         }
     }
-    munmap(none, 2 * wide);
-#else
-    (void)e;
-    (void)w;
-#endif
 }
 
 /* ---- Fences: no byte outside a slice is read or written, and none of a const slice is written, or of any slice but the answer
@@ -171,6 +160,7 @@ static void in_fences(const example *e, const worked *w)
 {
     const dds_call *call = &calls[e->call];
     int at_end;
+    calling = call->name;
     for (at_end = 0; at_end < 2; at_end++) {
         span spans[SLICES];
         fence_in(e, w, at_end, get(w->after[ANSWER]) != 0, spans);
@@ -190,13 +180,15 @@ int main(void)
 {
     size_t i;
     int call, found[CALLS] = { 0 };
+    uint8_t *promised = promise("examples", PROT_NONE);
+    watch_fences();
     for (i = 0; i < sizeof examples / sizeof *examples; i++) {
         worked w = work_out(&examples[i]);
         found[examples[i].call] = 1;
         aligned(&examples[i], &w);
         over_any_answer(&examples[i], &w);
         of_other_lengths(&examples[i], &w);
-        of_long_lengths(&examples[i], &w);
+        of_long_lengths(&examples[i], &w, promised);
         in_fences(&examples[i], &w);
         forget(&w);
     }

@@ -31,10 +31,13 @@ static inline int finish(const char *program)
     return failures != 0;
 }
 
+/* where the test itself is at fault, or lacks what it needs */
+static inline void stop(const char *why, const char *what) { fprintf(stderr, "%s: %s\n", why, what); exit(2); }
+
 static inline void *memory(size_t len)
 {
     void *p = malloc(len ? len : 1);
-    if (!p) { fprintf(stderr, "no memory\n"); exit(2); }
+    if (!p) stop("no memory", "malloc");
     return p;
 }
 
@@ -57,7 +60,7 @@ static inline uint8_t *twin_at(const slice *s) { return s->base ? s->twin + (s->
 /* another length up to the most, guarded; its first bytes stay */
 static inline void resize(slice *s, size_t len)
 {
-    if (len > s->most) { fprintf(stderr, "a test's slice is too long\n"); exit(2); }
+    if (len > s->most) stop("a test's slice is too long", "resize");
     s->len = len;
     memset(s->at + len, GUARD_BYTE, GUARD);
 }
@@ -121,12 +124,12 @@ static inline uint8_t *bytes(const char *text, size_t *len)
         unsigned long first, end, times = 1, t, b;
         if (*text == ' ' || *text == ',') { text++; continue; }
         first = end = strtoul(text, &next, 16);
-        if (next != text + 2) { fprintf(stderr, "a test's text is wrong: %s\n", text); exit(2); }
+        if (next != text + 2) stop("a test's text is wrong", text);
         if (*next == '*') { text = next + 1; times = strtoul(text, &next, 10); }
         else if (*next == '-') { text = next + 1; end = strtoul(text, &next, 16); }
         else if (*next == '+') { text = next + 1; end = first + strtoul(text, &next, 10) - 1; }
         out = realloc(out, n + times * (end - first + 1) + 1);
-        if (!out) exit(2);
+        if (!out) stop("no memory", "realloc");
         for (b = first; b <= end; b++) for (t = 0; t < times; t++) out[n++] = (uint8_t)b;
         text = next;
     }
@@ -202,6 +205,8 @@ static inline void spans_of(const desk *d, int call, int twins, span *spans)
     }
 }
 
+static const char *calling = ""; /* the call that is being made */
+
 /* makes the call, with as many of the numbers as it has: no byte outside a slice is written, and none in a const one */
 static inline void make(desk *d, int call, uint32_t a, uint32_t b, uint32_t c)
 {
@@ -211,6 +216,7 @@ static inline void make(desk *d, int call, uint32_t a, uint32_t b, uint32_t c)
     int i;
     for (i = 0; i < SLICES; i++) keep(&d->of[i]);
     spans_of(d, call, 0, spans);
+    calling = calls[call].name;
     d->refusal = calls[call].library(numbers, spans);
     for (s = calls[call].slices; s->which; s++) {
         check(guarded(&d->of[s->which]), calls[call].name, "guard bytes");

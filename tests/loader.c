@@ -4,7 +4,6 @@
 
 #define _DEFAULT_SOURCE
 #include "fence.h"
-#include "guard.h"
 
 /* ---- Volume Information */
 
@@ -175,10 +174,11 @@ static void messages(void)
     }
 }
 
-/* bytes of any length are taken, a null pointer with none, up to 2^32; those are promised and not touched */
+/* bytes of any length below 2^32 are taken, a null pointer with none */
 static void received_lengths(void)
 {
     static const size_t lengths[] = { 0, 1, 7, 9, 16, 264, 65544 };
+    uint8_t *promised = promise("loader", PROT_NONE);
     size_t i;
     desk d = desk_for(RADIO_FIND);
     lend_none(&d.of[RECEIVED], 1);
@@ -190,23 +190,15 @@ static void received_lengths(void)
         accepted(&d, "bytes of any length");
     }
     give_back(&d.of[RECEIVED]);
-#if SIZE_MAX > 0xFFFFFFFF
-    d.of[RECEIVED].len = (size_t)1 << 32;
-    d.of[RECEIVED].at = promised(d.of[RECEIVED].len, PROT_NONE);
-    if (d.of[RECEIVED].at) {
-        make(&d, RADIO_FIND, 0, 0, 0);
-        refused(&d, "2^32 received bytes", 60, 0);
-        munmap(d.of[RECEIVED].at, d.of[RECEIVED].len);
-    } else {
-        printf("loader: slices above 2^32 bytes skipped, no address space\n");
-    }
-    d.of[RECEIVED] = lend_null();
-#endif
+    d.of[RECEIVED] = lend_promised(promised, wide);
+    if (promised) make(&d, RADIO_FIND, 0, 0, 0);
+    if (promised) refused(&d, "2^32 received bytes", 60, 0);
     leave(&d);
 }
 
 int main(void)
 {
+    watch_fences();
     two_bytes();
     reserved();
     volume_order();

@@ -100,62 +100,46 @@ static void more_rows(void)
     leave(&s);
 }
 
-#if SIZE_MAX > 0xFFFFFFFF
-static const size_t wide = (size_t)1 << 32, more[] = { 0, 16, 20, 24, 32, 64 };
-
-/* a desk's slice set in promised pages; they are no slice of its own */
-static void lend_long(desk *d, int which, uint8_t *pages, size_t len)
-{
-    give_back(&d->of[which]);
-    d->of[which].at = pages;
-    d->of[which].len = len;
-}
-
-static void leave_long(desk *d, int which) { d->of[which] = lend_null(); leave(d); }
-
-static void long_data(uint8_t *none, size_t len)
+/* reading 5: lengths of 2^32 and more */
+static void long_data(uint8_t *promised, size_t len)
 {
     uint32_t phase;
     for (phase = 0; phase < 2; phase++) {
         desk s = phase ? writer(64, 7, 1, 9, 0, 0, 0, 20) : writer(64, 7, 0, 0, 3, 1, 0, 0);
-        lend_long(&s, DATA, none, len);
+        give_back(&s.of[DATA]);
+        s.of[DATA] = lend_promised(promised, len);
         records(&s, 0);
         refused(&s, "reading 5: long data", 15, 0);
-        leave_long(&s, DATA);
+        leave(&s);
     }
 }
 
-static void long_rows(uint8_t *pages, size_t len)
+static void long_rows(uint8_t *promised, size_t len)
 {
     desk s = lawful();
-    lend_long(&s, ROWS, pages, len);
+    give_back(&s.of[ROWS]);
+    s.of[ROWS] = lend_promised(promised, len);
     reads(&s, 7, 2);
     finished(&s, "reading 5: long rows are enough");
-    check(get(pages) == 2 && get(pages + 8) == 1 && get(pages + 20) == 64 && get(pages + 24) == 0, "reading 5", "long rows");
-    leave_long(&s, ROWS);
+    check(get(promised) == 2 && get(promised + 8) == 1 && get(promised + 20) == 64 && get(promised + 24) == 0, "reading 5",
+          "long rows");
+    leave(&s);
 }
-#endif
 
-/* reading 5: lengths of 2^32 and more, in pages that are promised and not touched, or touched in their first rows */
 static void long_slices(void)
 {
-#if SIZE_MAX > 0xFFFFFFFF
-    uint8_t *none = promised(wide + 4096, PROT_NONE), *rows = promised(wide + 4096, PROT_READ | PROT_WRITE);
+    static const size_t more[] = { 0, 16, 20, 24, 32, 64 };
+    uint8_t *data = promise("slices", PROT_NONE), *rows = promise("slices", PROT_READ | PROT_WRITE);
     size_t i;
-    if (!none || !rows) printf("slices: slices above 2^32 bytes skipped, no address space\n");
-    for (i = 0; i < sizeof more / sizeof *more && none && rows; i++) {
-        long_data(none, wide + more[i]);
-        long_rows(rows, wide + more[i]);
+    for (i = 0; i < sizeof more / sizeof *more; i++) {
+        if (data) long_data(data, wide + more[i]);
+        if (rows) long_rows(rows, wide + more[i]);
     }
-    if (none) munmap(none, wide + 4096);
-    if (rows) munmap(rows, wide + 4096);
-#else
-    printf("slices: slices above 2^32 bytes skipped, size_t is too narrow\n");
-#endif
 }
 
 int main(void)
 {
+    watch_fences();
     starts_over();
     warns();
     empties();
