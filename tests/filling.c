@@ -2,38 +2,38 @@
    so that every byte written, and every byte that stays, shows. L = 64 unless it is said: entry k stands at 32 - 4k and
    the room is r = 24 - 4e - d. */
 
-#include "guard.h"
+#include "groups.h"
 
 /* n bytes offered, free in an empty group: entire up to L - 40, otherwise a start that fills the group */
 static void record_in_empty_group(void)
 {
-    stage s = writer(64, 1, 0, 0, 0, 0, 0, 0);
+    desk s = writer(64, 1, 0, 0, 0, 0, 0, 0);
     offer(&s, 1);
     records(&s, 0);
     finished(&s, "entire 1");
-    group_is(&s, "entire 1", "01 EE*27 63 00 00 01 EE*32");
-    STATE_IS(&s, "entire 1", 64, 1, 0, 0, 1, 1, 0, 0);
+    slice_is(&s, GROUP, "entire 1", "01 EE*27 63 00 00 01 EE*32");
+    writer_is(&s, "entire 1", 64, 1, 0, 0, 1, 1, 0, 0);
     leave(&s);
     s = writer(64, 1, 0, 0, 0, 0, 0, 0);
     offer(&s, 24);
     records(&s, 0);
     finished(&s, "reading 23: r = L - 40 in an empty group");
-    group_is(&s, "reading 23: r = L - 40 in an empty group", "01-18 EE*4 63 00 00 18 EE*32");
-    STATE_IS(&s, "reading 23: r = L - 40 in an empty group", 64, 1, 0, 0, 24, 1, 0, 0);
+    slice_is(&s, GROUP, "reading 23: r = L - 40 in an empty group", "01-18 EE*4 63 00 00 18 EE*32");
+    writer_is(&s, "reading 23: r = L - 40 in an empty group", 64, 1, 0, 0, 24, 1, 0, 0);
     leave(&s);
     s = writer(64, 1, 0, 0, 0, 0, 0, 0);
     offer(&s, 25);
     records(&s, 0);
     closed(&s, "reading 28: r bytes taken at a start", 1, 2, 24);
-    group_is(&s, "start 24", "01-18 80 00 00 28 42 00 00 18 EE*32");
-    STATE_IS(&s, "start 24", 64, 2, 1, 24, 0, 0, 0, 1);
+    slice_is(&s, GROUP, "start 24", "01-18 80 00 00 28 42 00 00 18 EE*32");
+    writer_is(&s, "start 24", 64, 2, 1, 24, 0, 0, 0, 1);
     leave(&s);
     s = writer(64, 1, 0, 0, 0, 0, 0, 0);
     offer(&s, 16777215);
     records(&s, 1);
     closed(&s, "start of the longest record", 1, 2, 24);
-    group_is(&s, "start of the longest record", "01-18 88 00 00 28 4A 00 00 18 EE*32");
-    STATE_IS(&s, "start of the longest record", 64, 2, 1, 24, 0, 0, 0, 16777191);
+    slice_is(&s, GROUP, "start of the longest record", "01-18 88 00 00 28 4A 00 00 18 EE*32");
+    writer_is(&s, "start of the longest record", 64, 2, 1, 24, 0, 0, 0, 16777191);
     leave(&s);
 }
 
@@ -59,17 +59,17 @@ static void record_by_room(void)
     };
     size_t i;
     for (i = 0; i < sizeof cases / sizeof *cases; i++) {
-        stage s = writer(64, 9, 0, 0, cases[i].d, cases[i].e, 0, 0);
+        desk s = writer(64, 9, 0, 0, cases[i].d, cases[i].e, 0, 0);
         offer(&s, cases[i].n);
         records(&s, 0);
         if (cases[i].entries) {
             closed(&s, "reading 24: record by room", 9, cases[i].entries, cases[i].taken);
-            STATE_IS(&s, "reading 24: record by room", 64, 10, cases[i].phase, cases[i].sum, 0, 0, 0, cases[i].rest);
+            writer_is(&s, "reading 24: record by room", 64, 10, cases[i].phase, cases[i].sum, 0, 0, 0, cases[i].rest);
         } else {
             finished(&s, "reading 24: record by room");
-            STATE_IS(&s, "reading 24: record by room", 64, 9, 0, 0, cases[i].d + cases[i].n, cases[i].e + 1, 0, 0);
+            writer_is(&s, "reading 24: record by room", 64, 9, 0, 0, cases[i].d + cases[i].n, cases[i].e + 1, 0, 0);
         }
-        group_is(&s, "reading 24: record by room", cases[i].group);
+        slice_is(&s, GROUP, "reading 24: record by room", cases[i].group);
         leave(&s);
     }
 }
@@ -92,16 +92,16 @@ static void separator_by_room(void)
     };
     size_t i;
     for (i = 0; i < sizeof cases / sizeof *cases; i++) {
-        stage s = writer(64, 9, 0, 0, cases[i].d, cases[i].e, 0, 0);
+        desk s = writer(64, 9, 0, 0, cases[i].d, cases[i].e, 0, 0);
         separates(&s, cases[i].value, 0);
         if (cases[i].entries) {
             closed(&s, "reading 24: separator by room", 9, cases[i].entries, 0);
-            STATE_IS(&s, "reading 24: separator by room", 64, 10, 0, 0, 0, 0, 0, 0);
+            writer_is(&s, "reading 24: separator by room", 64, 10, 0, 0, 0, 0, 0, 0);
         } else {
             finished(&s, "reading 24: separator by room");
-            STATE_IS(&s, "reading 24: separator by room", 64, 9, 0, 0, cases[i].d, cases[i].e + 1, 0, 0);
+            writer_is(&s, "reading 24: separator by room", 64, 9, 0, 0, cases[i].d, cases[i].e + 1, 0, 0);
         }
-        group_is(&s, "reading 24: separator by room", cases[i].group);
+        slice_is(&s, GROUP, "reading 24: separator by room", cases[i].group);
         leave(&s);
     }
 }
@@ -125,17 +125,17 @@ static void record_inside(void)
     };
     size_t i;
     for (i = 0; i < sizeof cases / sizeof *cases; i++) {
-        stage s = writer(64, 9, 1, 100, 0, 0, 0, cases[i].n);
+        desk s = writer(64, 9, 1, 100, 0, 0, 0, cases[i].n);
         offer(&s, cases[i].n);
         records(&s, cases[i].warn);
         if (cases[i].taken) {
             closed(&s, "reading 28: record inside", 9, 2, cases[i].taken);
-            STATE_IS(&s, "reading 28: record inside", 64, 10, cases[i].phase, cases[i].sum, 0, 0, 0, cases[i].rest);
+            writer_is(&s, "reading 28: record inside", 64, 10, cases[i].phase, cases[i].sum, 0, 0, 0, cases[i].rest);
         } else {
             finished(&s, "reading 28: record inside");
-            STATE_IS(&s, "reading 28: record inside", 64, 9, 0, 0, cases[i].n, 2, cases[i].warn, 0);
+            writer_is(&s, "reading 28: record inside", 64, 9, 0, 0, cases[i].n, 2, cases[i].warn, 0);
         }
-        group_is(&s, "reading 28: record inside", cases[i].group);
+        slice_is(&s, GROUP, "reading 28: record inside", cases[i].group);
         if (cases[i].phase == 2) {
             offer(&s, 0);
             records(&s, 0);
@@ -156,17 +156,17 @@ static void record_inside_standard(void)
     };
     size_t i;
     for (i = 0; i < sizeof cases / sizeof *cases; i++) {
-        stage s = writer(126632, 9, 1, 1000, 0, 0, 0, cases[i].n);
+        desk s = writer(126632, 9, 1, 1000, 0, 0, 0, cases[i].n);
         offer(&s, cases[i].n);
         records(&s, 0);
         if (cases[i].taken) {
             closed(&s, "record inside, standard size", 9, 2, cases[i].taken);
-            STATE_IS(&s, "record inside, standard size", 126632, 10, cases[i].phase, cases[i].sum, 0, 0, 0, cases[i].rest);
+            writer_is(&s, "record inside, standard size", 126632, 10, cases[i].phase, cases[i].sum, 0, 0, 0, cases[i].rest);
         } else {
             finished(&s, "record inside, standard size");
-            STATE_IS(&s, "record inside, standard size", 126632, 9, 0, 0, cases[i].n, 2, 0, 0);
+            writer_is(&s, "record inside, standard size", 126632, 9, 0, 0, cases[i].n, 2, 0, 0);
         }
-        group_is(&s, "record inside, standard size", cases[i].group);
+        slice_is(&s, GROUP, "record inside, standard size", cases[i].group);
         leave(&s);
     }
 }
@@ -175,16 +175,18 @@ static void record_inside_standard(void)
 static void separators_standard(void)
 {
     uint32_t k, good = 1;
-    stage s = writer(126632, 9, 0, 0, 0, 0, 0, 0);
+    desk s = writer(126632, 9, 0, 0, 0, 0, 0, 0);
     for (k = 1; k <= 31649; k++) {
-        good &= dds_separator(s.state.at, 32, s.group.at, 126632, k % 2, 0, s.answer.at, 24) == 0 && get(s.answer.at + 8) == 0;
-        good &= get(s.group.at + 126600 - 4 * k) == 0x07000000 + k % 2;
+        good &= dds_separator(s.of[STATE].at, DDS_WRITER_LEN, s.of[GROUP].at, 126632, k % 2, 0, s.of[ANSWER].at,
+                              DDS_ANSWER_LEN) == 0;
+        good &= get(s.of[ANSWER].at + DDS_ANSWER_OUTCOME) == 0 && get(entry(&s.of[GROUP], k)) == 0x07000000 + k % 2;
     }
     check((int)good, "31,649 separators", "each is laid");
-    STATE_IS(&s, "31,649 separators", 126632, 9, 0, 0, 0, 31649, 0, 0);
+    writer_is(&s, "31,649 separators", 126632, 9, 0, 0, 0, 31649, 0, 0);
     separates(&s, 0, 0);
     closed(&s, "31,649 separators", 9, 31650, 0);
-    check(get(s.group.at) == 0x8001EEA8 && get(s.group.at + 4) == 0x07000001, "31,649 separators", "the skip stands at 0");
+    check(get(s.of[GROUP].at) == 0x8001EEA8 && get(s.of[GROUP].at + 4) == 0x07000001, "31,649 separators",
+          "the skip stands at 0");
     leave(&s);
 }
 
@@ -199,19 +201,21 @@ static void owed_total(void)
     };
     uint32_t warn;
     size_t i;
-    stage s;
+    desk s;
     for (warn = 0; warn < 2; warn++) {
         s = writer(64, 3, 2, 45, 0, 0, 0, 0);
         ends(&s, warn);
         closed(&s, "reading 22: end", 3, 2, 0);
-        group_is(&s, "reading 22: end", warn ? "00*24 88 00 00 40 09 00 00 2D EE*32" : "00*24 80 00 00 40 01 00 00 2D EE*32");
-        STATE_IS(&s, "reading 22: end", 64, 4, 0, 0, 0, 0, 0, 0);
+        slice_is(&s, GROUP, "reading 22: end",
+                 warn ? "00*24 88 00 00 40 09 00 00 2D EE*32" : "00*24 80 00 00 40 01 00 00 2D EE*32");
+        writer_is(&s, "reading 22: end", 64, 4, 0, 0, 0, 0, 0, 0);
         leave(&s);
         s = writer(64, 3, 2, 45, 0, 0, 0, 0);
         separates(&s, 1, warn);
         finished(&s, "reading 22: separator");
-        group_is(&s, "reading 22: separator", warn ? "EE*24 0F 00 00 01 09 00 00 2D EE*32" : "EE*24 07 00 00 01 01 00 00 2D EE*32");
-        STATE_IS(&s, "reading 22: separator", 64, 3, 0, 0, 0, 2, warn, 0);
+        slice_is(&s, GROUP, "reading 22: separator",
+                 warn ? "EE*24 0F 00 00 01 09 00 00 2D EE*32" : "EE*24 07 00 00 01 01 00 00 2D EE*32");
+        writer_is(&s, "reading 22: separator", 64, 3, 0, 0, 0, 2, warn, 0);
         leave(&s);
     }
     for (i = 0; i < sizeof offers / sizeof *offers; i++) {
@@ -220,100 +224,101 @@ static void owed_total(void)
         records(&s, offers[i].warn);
         if (offers[i].entries) {
             closed(&s, "reading 22: record", 3, offers[i].entries, offers[i].taken);
-            STATE_IS(&s, "reading 22: record", 64, 4, 1, 20, 0, 0, 0, offers[i].rest);
+            writer_is(&s, "reading 22: record", 64, 4, 1, 20, 0, 0, 0, offers[i].rest);
         } else {
             finished(&s, "reading 22: record");
-            STATE_IS(&s, "reading 22: record", 64, 3, 0, 0, offers[i].n, 2, offers[i].warn, 0);
+            writer_is(&s, "reading 22: record", 64, 3, 0, 0, offers[i].n, 2, offers[i].warn, 0);
         }
-        group_is(&s, "reading 22: record", offers[i].group);
+        slice_is(&s, GROUP, "reading 22: record", offers[i].group);
         leave(&s);
     }
     s = writer(64, 3, 2, 16777215, 0, 0, 0, 0);
     ends(&s, 0);
-    group_is(&s, "reading 22: a total of 16,777,215", "00*24 80 00 00 40 01 FF FF FF EE*32");
+    slice_is(&s, GROUP, "reading 22: a total of 16,777,215", "00*24 80 00 00 40 01 FF FF FF EE*32");
     leave(&s);
 }
 
 /* sizes that are no multiple of four: the table goes with the group's end, not with its beginning */
 static void odd_sizes(void)
 {
-    stage s = writer(67, 9, 0, 0, 0, 0, 0, 0);
+    desk s = writer(67, 9, 0, 0, 0, 0, 0, 0);
     offer(&s, 28);
     records(&s, 0);
     closed(&s, "L = 67, start", 9, 2, 27);
-    group_is(&s, "L = 67, start", "01-1B 80 00 00 28 42 00 00 1B EE*32");
-    STATE_IS(&s, "L = 67, start", 67, 10, 1, 27, 0, 0, 0, 1);
+    slice_is(&s, GROUP, "L = 67, start", "01-1B 80 00 00 28 42 00 00 1B EE*32");
+    writer_is(&s, "L = 67, start", 67, 10, 1, 27, 0, 0, 0, 1);
     leave(&s);
     s = writer(67, 9, 1, 27, 0, 0, 0, 23);
     offer(&s, 23);
     records(&s, 0);
     finished(&s, "L = 67, last of L - 44");
-    group_is(&s, "L = 67, last of L - 44", "01-17 EE*4 01 00 00 32 60 00 00 17 EE*32");
-    STATE_IS(&s, "L = 67, last of L - 44", 67, 9, 0, 0, 23, 2, 0, 0);
+    slice_is(&s, GROUP, "L = 67, last of L - 44", "01-17 EE*4 01 00 00 32 60 00 00 17 EE*32");
+    writer_is(&s, "L = 67, last of L - 44", 67, 9, 0, 0, 23, 2, 0, 0);
     leave(&s);
     s = writer(67, 9, 1, 27, 0, 0, 0, 24);
     offer(&s, 24);
     records(&s, 0);
     closed(&s, "L = 67, last of L - 43", 9, 2, 24);
-    group_is(&s, "L = 67, last of L - 43", "01-18 00*3 80 00 00 2B 60 00 00 18 EE*32");
-    STATE_IS(&s, "L = 67, last of L - 43", 67, 10, 2, 51, 0, 0, 0, 0);
+    slice_is(&s, GROUP, "L = 67, last of L - 43", "01-18 00*3 80 00 00 2B 60 00 00 18 EE*32");
+    writer_is(&s, "L = 67, last of L - 43", 67, 10, 2, 51, 0, 0, 0, 0);
     leave(&s);
     s = writer(67, 9, 0, 0, 0, 6, 0, 0);
     separates(&s, 1, 0);
     finished(&s, "L = 67, seventh separator");
-    group_is(&s, "L = 67, seventh separator", "EE*7 07 00 00 01 EE*24 EE*32");
+    slice_is(&s, GROUP, "L = 67, seventh separator", "EE*7 07 00 00 01 EE*24 EE*32");
     separates(&s, 1, 0);
     closed(&s, "L = 67, eighth separator", 9, 8, 0);
-    group_is(&s, "L = 67, eighth separator", "00*3 80 00 00 43 07 00 00 01 EE*24 EE*32");
+    slice_is(&s, GROUP, "L = 67, eighth separator", "00*3 80 00 00 43 07 00 00 01 EE*24 EE*32");
     leave(&s);
     s = writer(65, 9, 2, 45, 0, 0, 0, 0);
     ends(&s, 0);
-    group_is(&s, "L = 65, owed total", "00*25 80 00 00 41 01 00 00 2D EE*32");
+    slice_is(&s, GROUP, "L = 65, owed total", "00*25 80 00 00 41 01 00 00 2D EE*32");
     leave(&s);
     s = writer(66, 9, 0, 0, 25, 1, 1, 0);
     offer(&s, 1);
     records(&s, 0);
     closed(&s, "L = 66, no room", 9, 2, 0);
-    group_is(&s, "L = 66, no room", "EE*25 00*1 88 00 00 29 EE*4 EE*32");
+    slice_is(&s, GROUP, "L = 66, no room", "EE*25 00*1 88 00 00 29 EE*4 EE*32");
     leave(&s);
 }
 
 static void early_warning(void)
 {
-    stage s = writer(64, 3, 0, 0, 21, 1, 0, 0);
+    desk s = writer(64, 3, 0, 0, 21, 1, 0, 0);
     separates(&s, 0, 1);
     closed(&s, "reading 25: closed without laying", 3, 2, 0);
-    group_is(&s, "reading 25: the skip carries b4", "EE*21 00*3 88 00 00 2B EE*4 EE*32");
-    STATE_IS(&s, "reading 25: the new group has it clear", 64, 4, 0, 0, 0, 0, 0, 0);
-    memset(s.group.at, LENT, 64);
+    slice_is(&s, GROUP, "reading 25: the skip carries b4", "EE*21 00*3 88 00 00 2B EE*4 EE*32");
+    writer_is(&s, "reading 25: the new group has it clear", 64, 4, 0, 0, 0, 0, 0, 0);
+    memset(s.of[GROUP].at, LENT, 64);
     separates(&s, 0, 0);
-    group_is(&s, "reading 25: the second offer must say it again", "EE*28 07 00 00 00 EE*32");
+    slice_is(&s, GROUP, "reading 25: the second offer must say it again", "EE*28 07 00 00 00 EE*32");
     separates(&s, 1, 1);
     separates(&s, 0, 0);
     offer(&s, 3);
     records(&s, 0);
-    group_is(&s, "reading 25: once set it stays", "01-03 EE*13 6B 00 00 03 0F 00 00 00 0F 00 00 01 07 00 00 00 EE*32");
-    STATE_IS(&s, "reading 25: once set it stays", 64, 4, 0, 0, 3, 4, 1, 0);
+    slice_is(&s, GROUP, "reading 25: once set it stays", "01-03 EE*13 6B 00 00 03 0F 00 00 00 0F 00 00 01 07 00 00 00 EE*32");
+    writer_is(&s, "reading 25: once set it stays", 64, 4, 0, 0, 3, 4, 1, 0);
     separates(&s, 2, 0);
     refused(&s, "reading 26: a refused call keeps b4 as it was", 18, 0);
     ends(&s, 0);
     closed(&s, "reading 25: to the close", 4, 5, 0);
-    group_is(&s, "reading 25: the skip with them", "01-03 00*9 88 00 00 3D 6B 00 00 03 0F 00 00 00 0F 00 00 01 07 00 00 00 EE*32");
-    STATE_IS(&s, "reading 25: cleared at the close", 64, 5, 0, 0, 0, 0, 0, 0);
+    slice_is(&s, GROUP, "reading 25: the skip with them",
+             "01-03 00*9 88 00 00 3D 6B 00 00 03 0F 00 00 00 0F 00 00 01 07 00 00 00 EE*32");
+    writer_is(&s, "reading 25: cleared at the close", 64, 5, 0, 0, 0, 0, 0, 0);
     leave(&s);
     s = writer(64, 3, 0, 0, 20, 1, 0, 0);
     offer(&s, 9);
     records(&s, 1);
-    group_is(&s, "reading 25: a record not taken", "EE*20 00*4 88 00 00 2C EE*4 EE*32");
-    STATE_IS(&s, "reading 25: a record not taken", 64, 4, 0, 0, 0, 0, 0, 0);
+    slice_is(&s, GROUP, "reading 25: a record not taken", "EE*20 00*4 88 00 00 2C EE*4 EE*32");
+    writer_is(&s, "reading 25: a record not taken", 64, 4, 0, 0, 0, 0, 0, 0);
     leave(&s);
     s = writer(64, 3, 0, 0, 5, 1, 0, 0);
     separates(&s, 2, 1);
     refused(&s, "reading 26: a refused call keeps nothing of its warn", 18, 0);
     separates(&s, 1, 0);
-    group_is(&s, "reading 26: a refused call keeps nothing of its warn", "EE*24 07 00 00 01 EE*4 EE*32");
+    slice_is(&s, GROUP, "reading 26: a refused call keeps nothing of its warn", "EE*24 07 00 00 01 EE*4 EE*32");
     ends(&s, 1);
-    group_is(&s, "an end may set b4", "EE*5 00*15 88 00 00 3B 07 00 00 01 EE*4 EE*32");
+    slice_is(&s, GROUP, "an end may set b4", "EE*5 00*15 88 00 00 3B 07 00 00 01 EE*4 EE*32");
     leave(&s);
 }
 
@@ -322,7 +327,7 @@ static void end_of_run(void)
     uint32_t warn, number;
     for (warn = 0; warn < 2; warn++)
         for (number = 1; number <= 65536; number += 65535) {
-            stage s = writer(64, number, 0, 0, 0, 0, 0, 0);
+            desk s = writer(64, number, 0, 0, 0, 0, 0, 0);
             ends(&s, warn);
             refused(&s, "reading 27: closes nothing", 0, 0);
             leave(&s);
@@ -331,12 +336,12 @@ static void end_of_run(void)
 
 static void last_numbers(void)
 {
-    stage s = writer(64, 65535, 0, 0, 0, 0, 0, 0);
+    desk s = writer(64, 65535, 0, 0, 0, 0, 0, 0);
     separates(&s, 1, 0);
     finished(&s, "reading 31: group 65,535 may be filled");
     ends(&s, 0);
     closed(&s, "reading 31: and closed", 65535, 2, 0);
-    STATE_IS(&s, "reading 31: no number remains", 64, 65536, 0, 0, 0, 0, 0, 0);
+    writer_is(&s, "reading 31: no number remains", 64, 65536, 0, 0, 0, 0, 0, 0);
     separates(&s, 5, 0);
     refused(&s, "reading 31: 14 before 18", 14, 0);
     records(&s, 0);
@@ -360,7 +365,7 @@ static void last_numbers(void)
 
 static void orders(void)
 {
-    stage s = writer(64, 3, 1, 30, 0, 0, 0, 40);
+    desk s = writer(64, 3, 1, 30, 0, 0, 0, 40);
     records(&s, 0);
     refused(&s, "reading 32: an empty offer inside", 15, 0);
     offer(&s, 16777216);

@@ -1,6 +1,6 @@
-/* What the hand-written tests share: slices with guard bytes, each in its own allocation, the six calls made on them,
-   and what may be expected of a call. Expected bytes are texts of hexadecimal bytes worked out from document 01:
-   `41*20` is twenty bytes 41, `01-18` the bytes 01, 02 .. 18, `01+300` three hundred bytes 01, 02 .. FF, 00, 01 .. */
+/* What all tests share: slices with guard bytes, a desk of them, a call made on a desk, and what may be expected of it.
+   Expected bytes are texts of hexadecimal bytes worked out from the documents: `41*20` is twenty bytes 41, `01-18` the bytes
+   01, 02 .. 18, `01+300` three hundred bytes 01, 02 .. FF, 00, 01 .. */
 
 #ifndef GUARD_H
 #define GUARD_H
@@ -10,9 +10,10 @@
 #include <stdlib.h>
 #include <string.h>
 
-#include "dds.h"
+#include "calls.h"
 
 #define GUARD 64       /* guard bytes on each side of a slice */
+#define GUARD_BYTE 0xA5
 #define LENT 0xEE      /* what a slice holds when it is lent */
 
 static long checks, failures;
@@ -30,51 +31,76 @@ static inline int finish(const char *program)
     return failures != 0;
 }
 
-/* ---- Slices */
+/* where the test itself is at fault, or lacks what it needs */
+static inline void stop(const char *why, const char *what) { fprintf(stderr, "%s: %s\n", why, what); exit(2); }
 
-typedef struct { uint8_t *at; size_t len; uint8_t *base, *before; } slice;
-
-static inline slice lend(size_t len)
+static inline void *memory(size_t len)
 {
-    slice s;
-    s.base = malloc(len + 2 * GUARD);
-    s.before = malloc(len + 1);
-    if (!s.base || !s.before) { fprintf(stderr, "no memory\n"); exit(2); }
-    s.at = s.base + GUARD;
-    s.len = len;
-    memset(s.base, 0xA5, len + 2 * GUARD);
-    memset(s.at, LENT, len);
-    return s;
+    void *p = malloc(len ? len : 1);
+    if (!p) stop("no memory", "malloc");
+    return p;
 }
+
+/* ---- Slices. One that is lent has a base and a twin alike: before a call the twin is made what the slice is. */
+
+typedef struct { uint8_t *at; size_t len; uint8_t *base, *twin; size_t most; } slice;
 
 static inline slice lend_null(void)
 {
-    slice s = { 0, 0, 0, 0 };
+    slice s = { 0, 0, 0, 0, 0 };
     return s;
 }
+
+/* the base up to the guard behind the slice */
+static inline size_t extent(const slice *s) { return (size_t)(s->at - s->base) + s->len + GUARD; }
+
+/* the same place in the twin */
+static inline uint8_t *twin_at(const slice *s) { return s->base ? s->twin + (s->at - s->base) : s->at; }
+
+/* another length up to the most, guarded; its first bytes stay */
+static inline void resize(slice *s, size_t len)
+{
+    if (len > s->most) stop("a test's slice is too long", "resize");
+    s->len = len;
+    memset(s->at + len, GUARD_BYTE, GUARD);
+}
+
+/* `len` bytes LENT, `shift` bytes behind an address that suits any number */
+static inline slice lend_at(size_t len, size_t shift)
+{
+    slice s;
+    s.base = memory(shift + len + 2 * GUARD);
+    s.twin = memory(shift + len + 2 * GUARD);
+    s.at = s.base + GUARD + shift;
+    s.most = len;
+    memset(s.base, GUARD_BYTE, GUARD + shift);
+    memset(s.at, LENT, len);
+    resize(&s, len);
+    return s;
+}
+
+static inline slice lend(size_t len) { return lend_at(len, 0); }
 
 static inline void give_back(slice *s)
 {
     free(s->base);
-    free(s->before);
+    free(s->twin);
     *s = lend_null();
 }
 
 /* another length, lent anew */
 static inline void relend(slice *s, size_t len) { give_back(s); *s = lend(len); }
 
-static inline void keep(slice *s) { if (s->base) memcpy(s->before, s->at, s->len); }
+/* no byte at all, with a null pointer or with another */
+static inline void lend_none(slice *s, int null) { give_back(s); if (!null) *s = lend(0); }
 
-static inline int guarded(const slice *s)
-{
-    size_t i;
-    if (!s->base) return 1;
-    for (i = 0; i < GUARD; i++)
-        if (s->base[i] != 0xA5 || s->at[s->len + i] != 0xA5) return 0;
-    return 1;
-}
+static inline void keep(slice *s) { if (s->base) memcpy(s->twin, s->base, extent(s)); }
 
-static inline int kept(const slice *s) { return !s->base || memcmp(s->before, s->at, s->len) == 0; }
+static inline int untouched(const uint8_t *guard) { return guard[0] == GUARD_BYTE && memcmp(guard, guard + 1, GUARD - 1) == 0; }
+
+static inline int guarded(const slice *s) { return !s->base || (untouched(s->at - GUARD) && untouched(s->at + s->len)); }
+
+static inline int kept(const slice *s) { return !s->base || memcmp(twin_at(s), s->at, s->len) == 0; }
 
 /* ---- Bytes and numbers in slices */
 
@@ -91,19 +117,19 @@ static inline uint32_t get(const uint8_t *p)
 /* the bytes of a text, into an allocation of just their length; how many there are, into *len */
 static inline uint8_t *bytes(const char *text, size_t *len)
 {
-    uint8_t *out = 0;
+    uint8_t *out = memory(1);
     size_t n = 0;
     while (*text) {
         char *next;
         unsigned long first, end, times = 1, t, b;
         if (*text == ' ' || *text == ',') { text++; continue; }
         first = end = strtoul(text, &next, 16);
-        if (next != text + 2) { fprintf(stderr, "a test's text is wrong: %s\n", text); exit(2); }
+        if (next != text + 2) stop("a test's text is wrong", text);
         if (*next == '*') { text = next + 1; times = strtoul(text, &next, 10); }
         else if (*next == '-') { text = next + 1; end = strtoul(text, &next, 16); }
         else if (*next == '+') { text = next + 1; end = first + strtoul(text, &next, 10) - 1; }
         out = realloc(out, n + times * (end - first + 1) + 1);
-        if (!out) exit(2);
+        if (!out) stop("no memory", "realloc");
         for (b = first; b <= end; b++) for (t = 0; t < times; t++) out[n++] = (uint8_t)b;
         text = next;
     }
@@ -111,182 +137,135 @@ static inline uint8_t *bytes(const char *text, size_t *len)
     return out;
 }
 
-static inline int holds(const slice *s, const char *text)
+/* whether the found bytes are the wanted ones; both are shown where they are not */
+static inline int same_bytes(const uint8_t *wanted, size_t wanted_len, const uint8_t *found, size_t found_len)
 {
-    size_t len, i;
-    uint8_t *wanted = bytes(text, &len);
-    int same = len == s->len && (len == 0 || memcmp(wanted, s->at, len) == 0);
+    int same = wanted_len == found_len && (found_len == 0 || memcmp(wanted, found, found_len) == 0);
     if (!same && failures < 40) {
-        fprintf(stderr, "  wanted %s\n  found ", text);
-        for (i = 0; i < s->len && i < 160; i++) fprintf(stderr, " %02X", s->at[i]);
+        size_t i;
+        fprintf(stderr, "  wanted");
+        for (i = 0; i < wanted_len && i < 160; i++) fprintf(stderr, " %02X", wanted[i]);
+        fprintf(stderr, "\n  found ");
+        for (i = 0; i < found_len && i < 160; i++) fprintf(stderr, " %02X", found[i]);
         fprintf(stderr, "\n");
     }
+    return same;
+}
+
+static inline int holds(const slice *s, const char *text)
+{
+    size_t len;
+    uint8_t *wanted = bytes(text, &len);
+    int same = same_bytes(wanted, len, s->at, s->len);
     free(wanted);
     return same;
 }
 
+/* the bytes of a text, lent */
 static inline void set(slice *s, const char *text)
 {
     size_t len;
     uint8_t *b = bytes(text, &len);
-    if (len != s->len) { fprintf(stderr, "a test's text has %zu bytes, not %zu: %s\n", len, s->len, text); exit(2); }
-    if (len) memcpy(s->at, b, len);
+    relend(s, len);
+    memcpy(s->at, b, len);
     free(b);
 }
 
-/* ---- A stage: everything lent to one call, and what it returned */
+/* ---- A desk: everything lent to a call or to calls one after another, and what the last one returned */
 
-typedef struct { slice state, group, rows, data, answer; uint32_t refusal; } stage;
+typedef struct { slice of[SLICES]; uint32_t refusal; } desk;
 
-static inline stage reader(uint32_t size, uint32_t next, uint32_t phase, uint32_t sum)
+static inline size_t own_length(const lent_slice *s) { return s->length > ANY_LENGTH ? s->length : 0; }
+
+/* the slices of a call, each of its own length, empty where it has none */
+static inline desk desk_for(int call)
 {
-    stage s;
-    s.state = lend(16); s.group = lend(size < 200000 ? size : 64); s.rows = lend(0); s.data = lend(0); s.answer = lend(24);
-    put(s.state.at, size); put(s.state.at + 4, next); put(s.state.at + 8, phase); put(s.state.at + 12, sum);
-    return s;
+    desk d;
+    int i;
+    const lent_slice *s;
+    for (i = 0; i < SLICES; i++) d.of[i] = lend_null();
+    for (s = calls[call].slices; s->which; s++) d.of[s->which] = lend(own_length(s));
+    d.refusal = 99;
+    return d;
 }
 
-static inline stage writer(uint32_t size, uint32_t next, uint32_t phase, uint32_t sum, uint32_t d, uint32_t e, uint32_t b4,
-                           uint32_t rest)
+static inline void leave(desk *d)
 {
-    stage s = reader(size, next, phase, sum);
-    relend(&s.state, 32);
-    put(s.state.at, size); put(s.state.at + 4, next); put(s.state.at + 8, phase); put(s.state.at + 12, sum);
-    put(s.state.at + 16, d); put(s.state.at + 20, e); put(s.state.at + 24, b4); put(s.state.at + 28, rest);
-    return s;
+    int i;
+    for (i = 0; i < SLICES; i++) give_back(&d->of[i]);
 }
 
-static inline void leave(stage *s)
+/* the spans of a call's slices: the slices themselves, or their twins */
+static inline void spans_of(const desk *d, int call, int twins, span *spans)
 {
-    give_back(&s->state); give_back(&s->group); give_back(&s->rows); give_back(&s->data); give_back(&s->answer);
+    const lent_slice *s;
+    for (s = calls[call].slices; s->which; s++) {
+        spans[s->which].at = twins ? twin_at(&d->of[s->which]) : d->of[s->which].at;
+        spans[s->which].len = d->of[s->which].len;
+    }
 }
 
-/* data of n bytes to offer: 01, 02 .. FF, 00, 01 .. */
-static inline void offer(stage *s, size_t n)
-{
-    size_t i;
-    relend(&s->data, n);
-    for (i = 0; i < n; i++) s->data.at[i] = (uint8_t)(i + 1);
-}
+static const char *calling = ""; /* the call that is being made */
 
-/* n entries, each its flag and count in one word, into a group that is otherwise LENT; n rows */
-static inline void table(stage *s, uint32_t n, const uint32_t *entries)
+/* makes the call, with as many of the numbers as it has: no byte outside a slice is written, and none in a const one */
+static inline void make(desk *d, int call, uint32_t a, uint32_t b, uint32_t c)
 {
-    uint32_t k;
-    memset(s->group.at, LENT, s->group.len);
-    for (k = 1; k <= n; k++) put(s->group.at + s->group.len - 32 - 4 * k, entries[k - 1]);
-    relend(&s->rows, 12 * (size_t)n);
-}
-#define ENTRIES(...) (uint32_t)(sizeof (uint32_t[]){ __VA_ARGS__ } / 4), (uint32_t[]){ __VA_ARGS__ }
-
-static inline void keep_all(stage *s)
-{
-    keep(&s->state); keep(&s->group); keep(&s->rows); keep(&s->data); keep(&s->answer);
-}
-
-static inline void returned(stage *s, uint32_t refusal, const char *call)
-{
-    s->refusal = refusal;
-    check(guarded(&s->state) && guarded(&s->group) && guarded(&s->rows) && guarded(&s->data) && guarded(&s->answer), call,
-          "guard bytes");
-    check(kept(&s->data), call, "data bytes stay");
-}
-
-static inline void reader_starts(stage *s, uint32_t size, uint32_t first)
-{
-    keep_all(s);
-    returned(s, dds_reader_start(size, first, s->state.at, s->state.len, s->answer.at, s->answer.len), "dds_reader_start");
-}
-
-static inline void writer_starts(stage *s, uint32_t size, uint32_t first)
-{
-    keep_all(s);
-    returned(s, dds_writer_start(size, first, s->state.at, s->state.len, s->answer.at, s->answer.len), "dds_writer_start");
-}
-
-static inline void reads(stage *s, uint32_t number, uint32_t entries)
-{
-    keep_all(s);
-    returned(s, dds_read(s->state.at, s->state.len, s->group.at, s->group.len, number, entries, s->rows.at, s->rows.len,
-                         s->answer.at, s->answer.len), "dds_read");
-    check(kept(&s->group), "dds_read", "group bytes stay");
-}
-
-static inline void records(stage *s, uint32_t warn)
-{
-    keep_all(s);
-    returned(s, dds_record(s->state.at, s->state.len, s->group.at, s->group.len, s->data.at, s->data.len, warn, s->answer.at,
-                           s->answer.len), "dds_record");
-}
-
-static inline void separates(stage *s, uint32_t value, uint32_t warn)
-{
-    keep_all(s);
-    returned(s, dds_separator(s->state.at, s->state.len, s->group.at, s->group.len, value, warn, s->answer.at, s->answer.len),
-             "dds_separator");
-}
-
-static inline void ends(stage *s, uint32_t warn)
-{
-    keep_all(s);
-    returned(s, dds_end(s->state.at, s->state.len, s->group.at, s->group.len, warn, s->answer.at, s->answer.len), "dds_end");
+    const uint32_t numbers[MOST_NUMBERS] = { a, b, c };
+    const lent_slice *s;
+    span spans[SLICES];
+    int i;
+    for (i = 0; i < SLICES; i++) keep(&d->of[i]);
+    spans_of(d, call, 0, spans);
+    calling = calls[call].name;
+    d->refusal = calls[call].library(numbers, spans);
+    for (s = calls[call].slices; s->which; s++) {
+        check(guarded(&d->of[s->which]), calls[call].name, "guard bytes");
+        if (s->written == CONST) check(kept(&d->of[s->which]), calls[call].name, "a const slice stays");
+    }
 }
 
 /* ---- What is expected after a call */
 
-static inline int answer_is(const stage *s, const char *name, uint32_t refusal, uint32_t place, uint32_t outcome,
-                            uint32_t number, uint32_t entries, uint32_t taken)
+static inline int answer_is(const desk *d, const char *name, uint32_t refusal, uint32_t place, uint32_t outcome, uint32_t third,
+                            uint32_t fourth, uint32_t fifth)
 {
-    const uint8_t *a = s->answer.at;
-    int same = s->answer.len == 24 && get(a) == refusal && get(a + 4) == place && get(a + 8) == outcome
-        && get(a + 12) == number && get(a + 16) == entries && get(a + 20) == taken && s->refusal == refusal;
-    if (!same && failures < 40 && s->answer.len == 24)
-        fprintf(stderr, "  wanted %u %u %u %u %u %u, returned %u, answered %u %u %u %u %u %u\n", refusal, place, outcome, number,
-                entries, taken, s->refusal, get(a), get(a + 4), get(a + 8), get(a + 12), get(a + 16), get(a + 20));
+    const uint32_t wanted[] = { refusal, place, outcome, third, fourth, fifth };
+    const slice *a = &d->of[ANSWER];
+    int whole = a->len == DDS_ANSWER_LEN, same = whole && d->refusal == refusal, i;
+    for (i = 0; i < 6 && same; i++) same = get(a->at + 4 * i) == wanted[i];
+    if (!same && failures < 40) {
+        fprintf(stderr, "  returned %u, answered", d->refusal);
+        for (i = 0; i < 6 && whole; i++) fprintf(stderr, " %u", get(a->at + 4 * i));
+        fprintf(stderr, ", wanted");
+        for (i = 0; i < 6; i++) fprintf(stderr, " %u", wanted[i]);
+        fprintf(stderr, "\n");
+    }
     return check(same, name, "answer");
 }
 
+static inline void accepted(const desk *d, const char *name) { answer_is(d, name, 0, 0, 0, 0, 0, 0); }
+
 /* a refusal with its answer, and nothing else written */
-static inline void refused(stage *s, const char *name, uint32_t refusal, uint32_t place)
+static inline void refused(const desk *d, const char *name, uint32_t refusal, uint32_t place)
 {
-    answer_is(s, name, refusal, place, 0, 0, 0, 0);
-    check(kept(&s->state), name, "a refusal leaves the state");
-    check(kept(&s->group), name, "a refusal leaves the group");
-    check(kept(&s->rows), name, "a refusal leaves the rows");
+    int i;
+    answer_is(d, name, refusal, place, 0, 0, 0, 0);
+    for (i = 0; i < SLICES; i++)
+        if (i != ANSWER && d->of[i].base) check(kept(&d->of[i]), name, "a refusal writes the answer alone");
 }
 
 /* refusal 1 by length: nothing written at all */
-static inline void refused_unwritten(stage *s, const char *name)
+static inline void refused_unwritten(const desk *d, const char *name)
 {
-    check(s->refusal == 1, name, "returns 1");
-    check(kept(&s->state) && kept(&s->group) && kept(&s->rows) && kept(&s->answer), name, "nothing is written at all");
+    int i;
+    check(d->refusal == 1, name, "returns 1");
+    for (i = 0; i < SLICES; i++)
+        if (d->of[i].base) check(kept(&d->of[i]), name, "nothing is written at all");
 }
 
-static inline void finished(stage *s, const char *name) { answer_is(s, name, 0, 0, 0, 0, 0, 0); }
-
-static inline void closed(stage *s, const char *name, uint32_t number, uint32_t entries, uint32_t taken)
+static inline void slice_is(const desk *d, int which, const char *name, const char *text)
 {
-    answer_is(s, name, 0, 0, 1, number, entries, taken);
+    check(holds(&d->of[which], text), name, slice_names[which]);
 }
-
-static inline void group_is(stage *s, const char *name, const char *text) { check(holds(&s->group, text), name, "group bytes"); }
-static inline void state_is(stage *s, const char *name, const char *text) { check(holds(&s->state, text), name, "state bytes"); }
-static inline void rows_are(stage *s, const char *name, const char *text) { check(holds(&s->rows, text), name, "row bytes"); }
-
-static inline void numbers_are(stage *s, const char *name, uint32_t n, const uint32_t *wanted)
-{
-    uint32_t i;
-    int same = s->state.len == 4 * (size_t)n;
-    for (i = 0; i < n && same; i++) same = get(s->state.at + 4 * i) == wanted[i];
-    if (!same && failures < 40) {
-        fprintf(stderr, "  found state");
-        for (i = 0; i < s->state.len / 4; i++) fprintf(stderr, " %u", get(s->state.at + 4 * i));
-        fprintf(stderr, "\n");
-    }
-    check(same, name, "state");
-}
-
-/* reader: size, next, phase, sum; writer: further d, e, b4, rest */
-#define STATE_IS(s, name, ...) numbers_are(s, name, ENTRIES(__VA_ARGS__))
 
 #endif

@@ -1,7 +1,8 @@
 /* Change request 2026-11 and source document 001 in plain C, in the documents' order. It is written to be read beside them, not
-   to be fast: figure 46 is a table of fields, flags are looked at one by one, and the search counts zero bytes as they come in. */
+   to be fast: figure 46 is a table of fields, flags are looked at one by one, and the search counts zero bytes as they
+   come in. */
 
-#include "loader_model.h"
+#include "model.h"
 
 typedef uint64_t num;
 
@@ -140,7 +141,8 @@ uint32_t MODEL(radio_find)(const uint8_t *received, size_t received_len, uint8_t
     if (answer_len != 24) return 1;
     if (len >= 4294967296u) return told(answer, 60, 0, 0, 0, 0);
     for (i = 0; i < len; i++) {
-        if (zeros >= 3 && received[i] == 0xB2 && len - i > 2 && received[i + 1] == 0x4D) return told(answer, 0, 1, i - 1, i + 2, 0);
+        if (zeros >= 3 && received[i] == 0xB2 && len - i > 2 && received[i + 1] == 0x4D)
+            return told(answer, 0, 1, i - 1, i + 2, 0);
         zeros = received[i] == 0 ? zeros + 1 : 0;
     }
     return told(answer, 0, 0, 0, 0, 0);

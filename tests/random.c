@@ -1,15 +1,15 @@
 /* Single calls at random, compared with the model: states sound, nearly sound and garbage; groups random, lawful and
    lawful but for a few bytes; lengths and arguments right and wrong. COUNT is how many of each kind: random [COUNT]. */
 
+#include "groups.h"
 #include "pair.h"
-
-#define LARGEST 126632
 
 /* numbers near every bound of document 01 */
 static uint32_t bound(void)
 {
     static const uint32_t bounds[] = { 0, 1, 2, 3, 20, 24, 28, 32, 40, 44, 63, 64, 65, 255, 256, 4096, 31649, 65535, 65536, 65537,
-        126592, 126632, 126633, 16777213, 16777214, 16777215, 16777216, 0x3FFFFFFF, 0x40000000, 0x80000000, 0xFFFFFFD8, 0xFFFFFFFF };
+        126592, 126632, 126633, 16777213, 16777214, 16777215, 16777216, 0x3FFFFFFF, 0x40000000, 0x80000000, 0xFFFFFFD8,
+        0xFFFFFFFF };
     uint32_t n = bounds[below(sizeof bounds / sizeof *bounds)];
     switch (below(6)) {
     case 0: return rnd();
@@ -26,35 +26,38 @@ static uint32_t some_size(void)
     return 64 + below(one_in(3) ? 4 : 80);
 }
 
-static void sound_reader(uint8_t *s, uint32_t size)
+/* phase and sum, sound together */
+static uint32_t some_phase(uint32_t *sum)
 {
-    uint32_t phase = below(3), sum;
-    sum = one_in(8) ? 16777215 - below(40) : 2 + below(300);
-    if (phase == 1 && sum == 16777215) sum--;
-    put(s, size);
-    put(s + 4, one_in(20) ? 65536 - below(2) : 1 + below(65535));
-    put(s + 8, phase);
-    put(s + 12, phase ? sum : 0);
+    uint32_t phase = below(3);
+    *sum = one_in(8) ? 16777215 - below(40) : 2 + below(300);
+    if (phase == DDS_PHASE_INSIDE && *sum == 16777215) --*sum;
+    if (phase == DDS_PHASE_FREE) *sum = 0;
+    return phase;
 }
 
-static void sound_writer(uint8_t *s, uint32_t size)
+static uint32_t some_number(void) { return one_in(20) ? 65536 - below(2) : 1 + below(65535); }
+
+static void sound_reader(uint8_t *state, uint32_t size)
 {
-    uint32_t phase, e, sum;
-    sound_reader(s, size);
-    memset(s + 16, 0, 16);
-    phase = get(s + 8);
-    sum = get(s + 12);
-    if (phase == 1) {
-        uint32_t left = 16777215 - sum, rest = one_in(3) ? size - 46 + below(8) : 1 + below(3 * size);
-        put(s + 28, rest < left ? rest : left);
-    } else if (phase == 0 && get(s + 4) < 65536 && !one_in(4)) {
-        uint32_t most = (size - 32) / 4 - 1, d;
-        e = 1 + below(one_in(2) ? most : most < 4 ? most : 4);
-        d = size - 32 - 4 * (e + 1);
-        put(s + 16, one_in(2) ? below(d + 1) : d - below(d < 9 ? d + 1 : 9));
-        put(s + 20, e);
-        put(s + 24, below(2));
+    uint32_t sum, phase = some_phase(&sum);
+    put_reader(state, size, some_number(), phase, sum);
+}
+
+static void sound_writer(uint8_t *state, uint32_t size)
+{
+    uint32_t sum, phase = some_phase(&sum), next = some_number(), data = 0, entries = 0, b4 = 0, rest = 0;
+    if (phase == DDS_PHASE_INSIDE) {
+        rest = one_in(3) ? size - 46 + below(8) : 1 + below(3 * size);
+        if (rest > 16777215 - sum) rest = 16777215 - sum;
+    } else if (phase == DDS_PHASE_FREE && next < 65536 && !one_in(4)) {
+        uint32_t most = (size - 32) / 4 - 1, room;
+        entries = 1 + below(one_in(2) ? most : most < 4 ? most : 4);
+        room = size - 32 - 4 * (entries + 1);
+        data = one_in(2) ? below(room + 1) : room - below(room < 9 ? room + 1 : 9);
+        b4 = below(2);
     }
+    put_writer(state, size, next, phase, sum, data, entries, b4, rest);
 }
 
 /* a lawful table of n entries where there is one, from the state's phase on; where there is none, whatever comes */
@@ -83,7 +86,8 @@ static void lawful(uint8_t *group, uint32_t size, uint32_t n, uint32_t phase, ui
 
 static void spoil(uint8_t *group, uint32_t size, uint32_t n)
 {
-    static const uint8_t flags[] = { 0x01, 0x07, 0x40, 0x42, 0x60, 0x63, 0x80, 0x09, 0x0F, 0x48, 0x4A, 0x68, 0x6B, 0x88, 0x43, 0x00 };
+    static const uint8_t flags[] = { 0x01, 0x07, 0x40, 0x42, 0x60, 0x63, 0x80, 0x09, 0x0F, 0x48, 0x4A, 0x68, 0x6B, 0x88, 0x43,
+        0x00 };
     uint32_t times = 1 + below(2), k, j;
     while (times--) {
         uint8_t *e = group + size - 32 - 4 * (k = 1 + below(n)), *f = group + size - 32 - 4 * (j = 1 + below(n)), swap[4];
@@ -99,90 +103,113 @@ static void spoil(uint8_t *group, uint32_t size, uint32_t n)
     }
 }
 
-static void wrong_lengths(lent *s)
-{
-    resize(&s->answer, one_in(400) ? below(40) : 24);
-    if (one_in(400)) resize(&s->state, below(40));
-    if (one_in(100)) resize(&s->group, below(130));
-}
+/* one field of a state, by chance */
+static uint8_t *some_field(const slice *state) { return state->at + 4 * below((uint32_t)state->len / 4); }
 
-/* a state slice of `len` bytes: sound, sound but for a field, or garbage */
-static void some_state(lent *s, size_t len, uint32_t size)
+static uint32_t field(const desk *d, uint32_t at) { return get(d->of[STATE].at + at); }
+
+/* a state for this call, sound, sound but for a field or two, or garbage; a group of its size, an answer */
+static void some_state(desk *d, size_t len, uint32_t size)
 {
     uint32_t how = below(10), i;
-    resize(&s->state, len);
-    if (len == 16) sound_reader(ours(&s->state), size); else sound_writer(ours(&s->state), size);
-    if (how == 0) fill(&s->state);
-    if (how == 1) for (i = 0; i < len; i += 4) put(ours(&s->state) + i, bound());
-    if (how == 2) put(ours(&s->state) + 4 * below((uint32_t)len / 4), bound());
-    if (how == 3) { put(ours(&s->state) + 4 * below((uint32_t)len / 4), bound()); put(ours(&s->state) + 4 * below((uint32_t)len / 4), bound()); }
-    size = get(ours(&s->state));
-    resize(&s->group, size >= 64 && size <= LARGEST ? size : 64);
-    memset(ours(&s->answer), (int)below(256), 24);
+    slice *state = &d->of[STATE];
+    resize(state, len);
+    if (len == DDS_READER_LEN) sound_reader(state->at, size); else sound_writer(state->at, size);
+    if (how == 0) fill(state);
+    if (how == 1) for (i = 0; i < len; i += 4) put(state->at + i, bound());
+    if (how == 2 || how == 3) put(some_field(state), bound());
+    if (how == 3) put(some_field(state), bound());
+    size = field(d, DDS_STATE_SIZE);
+    resize(&d->of[GROUP], size >= 64 && size <= LARGEST ? size : 64);
+    resize(&d->of[ANSWER], DDS_ANSWER_LEN);
+    memset(d->of[ANSWER].at, (int)below(256), DDS_ANSWER_LEN);
 }
 
-static void reads(lent *s, long count)
+static void wrong_lengths(desk *d)
 {
+    if (one_in(400)) resize(&d->of[ANSWER], below(40));
+    if (one_in(400)) resize(&d->of[STATE], below(40));
+    if (one_in(100)) resize(&d->of[GROUP], below(130));
+}
+
+static void reads_some(desk *d, long count)
+{
+    slice *group = &d->of[GROUP], *rows = &d->of[ROWS];
     while (count--) {
         uint32_t size, n, most, how = below(8), number;
-        some_state(s, 16, some_size());
-        size = (uint32_t)s->group.len;
+        some_state(d, DDS_READER_LEN, some_size());
+        size = (uint32_t)group->len;
         most = (size - 32) / 4;
         n = 1 + below(one_in(4) || most < 6 ? most : 6);
-        memset(ours(&s->group), (int)below(256), size);
+        memset(group->at, (int)below(256), size);
         if (how == 0) {
-            fill(&s->group);
+            fill(group);
         } else {
-            lawful(ours(&s->group), size, n, get(ours(&s->state) + 8), get(ours(&s->state) + 12));
-            if (how > 3) spoil(ours(&s->group), size, n);
+            lawful(group->at, size, n, field(d, DDS_STATE_PHASE), field(d, DDS_STATE_SUM));
+            if (how > 3) spoil(group->at, size, n);
         }
-        number = one_in(60) ? bound() : get(ours(&s->state) + 4);
+        number = one_in(60) ? bound() : field(d, DDS_STATE_NEXT);
         if (one_in(60)) n = bound();
-        resize(&s->rows, n > most ? below(200) : one_in(60) ? below(12 * n + 1) : 12 * n + below(20));
-        memset(ours(&s->rows), (int)below(256), s->rows.len);
-        wrong_lengths(s);
-        both_read(s, number, n);
+        resize(rows, n > most ? below(200) : one_in(60) ? below(12 * n + 1) : 12 * n + below(20));
+        memset(rows->at, (int)below(256), rows->len);
+        wrong_lengths(d);
+        both(d, READ, number, n, 0);
     }
 }
 
-static void writes(lent *s, long count)
+/* how much data to offer: the rest, about as much as the room, or any */
+static uint32_t some_data(const desk *d, uint32_t size)
+{
+    uint32_t phase = field(d, DDS_STATE_PHASE);
+    int64_t entries = (int64_t)field(d, DDS_STATE_ENTRIES) + (phase == DDS_PHASE_OWED);
+    int64_t room = (int64_t)size - 40 - 4 * entries - field(d, DDS_STATE_DATA);
+    if (phase == DDS_PHASE_INSIDE && !one_in(10)) return field(d, DDS_STATE_REST);
+    if (one_in(2)) return below(3 * size);
+    return (uint32_t)(room < 2 ? below(4) : (uint64_t)room + below(4) - 2);
+}
+
+static void writes_some(desk *d, long count)
 {
     while (count--) {
-        uint32_t size, warn = one_in(60) ? bound() : below(2), n, phase;
-        int64_t room;
-        some_state(s, 32, some_size());
-        size = (uint32_t)s->group.len;
-        memset(ours(&s->group), (int)below(256), size);
-        resize(&s->rows, 0);
-        resize(&s->data, 0);
-        wrong_lengths(s);
-        phase = get(ours(&s->state) + 8);
+        uint32_t size, warn = one_in(60) ? bound() : below(2), n;
+        some_state(d, DDS_WRITER_LEN, some_size());
+        size = (uint32_t)d->of[GROUP].len;
+        memset(d->of[GROUP].at, (int)below(256), size);
+        n = some_data(d, size);
+        wrong_lengths(d);
         switch (below(4)) {
-        case 0: both_end(s, warn); break;
-        case 1: both_separator(s, one_in(20) ? bound() : below(2), warn); break;
+        case 0: both(d, END, warn, 0, 0); break;
+        case 1: both(d, SEPARATOR, one_in(20) ? bound() : below(2), warn, 0); break;
         default:
-            room = (int64_t)size - 40 - 4 * ((int64_t)get(ours(&s->state) + 20) + (phase == 2)) - get(ours(&s->state) + 16);
-            n = phase == 1 && !one_in(10) ? get(ours(&s->state) + 28) : one_in(2) ? below(3 * size)
-                : (uint32_t)(room < 2 ? below(4) : (uint64_t)room + below(4) - 2);
-            resize(&s->data, n <= 4 * LARGEST ? n : below(100));
-            fill(&s->data);
-            both_record(s, warn);
+            resize(&d->of[DATA], n <= 4 * LARGEST ? n : below(100));
+            fill(&d->of[DATA]);
+            both(d, RECORD, warn, 0, 0);
         }
     }
 }
 
-static void starts(lent *s, long count)
+static void starts_some(desk *d, long count)
 {
     while (count--) {
-        int writer = one_in(2);
-        resize(&s->state, writer ? 32 : 16);
-        fill(&s->state);
-        resize(&s->group, 0); resize(&s->rows, 0); resize(&s->data, 0);
-        memset(ours(&s->answer), (int)below(256), 24);
-        wrong_lengths(s);
-        resize(&s->group, 0);
-        both_start(s, writer, one_in(2) ? bound() : some_size(), one_in(2) ? bound() : 1 + below(65535));
+        int writes = one_in(2);
+        some_state(d, writes ? DDS_WRITER_LEN : DDS_READER_LEN, some_size());
+        fill(&d->of[STATE]);
+        wrong_lengths(d);
+        both(d, writes ? WRITER_START : READER_START, one_in(2) ? bound() : some_size(),
+             one_in(2) ? bound() : 1 + below(65535), 0);
     }
+}
+
+static desk lent_for(size_t data)
+{
+    desk d = desk_for(READ);
+    lend_most(&d, STATE, 64);
+    lend_most(&d, GROUP, LARGEST);
+    lend_most(&d, ROWS, 3 * LARGEST);
+    lend_most(&d, DATA, data);
+    lend_most(&d, ANSWER, 64);
+    resize(&d.of[ANSWER], DDS_ANSWER_LEN);
+    return d;
 }
 
 /* records at and above the longest, by the standard size and the least */
@@ -190,32 +217,28 @@ static void long_records(void)
 {
     static const uint32_t sizes[] = { 64, LARGEST };
     uint32_t i, n;
-    lent s = lent_of(LARGEST, 16777217);
+    desk d = lent_for(16777217);
     for (i = 0; i < 2; i++)
         for (n = 16777213; n <= 16777217; n++) {
-            resize(&s.state, 32);
-            resize(&s.group, sizes[i]);
-            both_start(&s, 1, sizes[i], 1);
-            resize(&s.data, n);
-            memset(ours(&s.data), (int)n, n);
-            both_record(&s, 0);
+            resize(&d.of[STATE], DDS_WRITER_LEN);
+            resize(&d.of[GROUP], sizes[i]);
+            both(&d, WRITER_START, sizes[i], 1, 0);
+            resize(&d.of[DATA], n);
+            memset(d.of[DATA].at, (int)n, n);
+            both(&d, RECORD, 0, 0, 0);
         }
-    free_lent(&s);
+    leave(&d);
 }
 
 int main(int argc, char **argv)
 {
-    long count = argc > 1 ? atol(argv[1]) : 4000000;
-    int i;
-    lent s = lent_of(LARGEST, 4 * LARGEST);
-    reads(&s, count);
-    writes(&s, count);
-    starts(&s, count / 4);
+    long count = count_of(argc, argv, 4000000);
+    desk d = lent_for(4 * LARGEST);
+    reads_some(&d, count);
+    writes_some(&d, count);
+    starts_some(&d, count / 4);
     long_records();
-    free_lent(&s);
-    for (i = 1; i <= 18; i++)
-        if (seen[i] == 0 && count >= 10000) { fprintf(stderr, "  refusal %d never came up\n", i); failures++; }
-    if (argc > 2) for (i = 0; i < 20; i++) printf("%d: %ld\n", i, seen[i]);
-    printf("random: %ld calls compared, %ld differ\n", calls, failures);
-    return failures != 0;
+    leave(&d);
+    came_up(count, 10000, LIST(0, 1, 2, 3, 4, 5, 6, 7, 8, 9, 10, 11, 12, 13, 14, 15, 16, 17, 18));
+    return finish_pairs("random");
 }

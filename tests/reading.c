@@ -2,25 +2,25 @@
    group is bytes EE, so that data, gap and the last 32 bytes are never what is expected. L = 64 unless it is said:
    data may reach 32 - 4n. */
 
-#include "guard.h"
+#include "groups.h"
 
 /* one read at number 7, refused */
 #define REFUSED(name, phase, sum, refusal, place, ...) do { \
-        stage s_ = reader(64, 7, phase, sum); \
-        table(&s_, ENTRIES(__VA_ARGS__)); \
-        reads(&s_, 7, (uint32_t)(s_.rows.len / 12)); \
+        desk s_ = reader(64, 7, phase, sum); \
+        table(&s_, LIST(__VA_ARGS__)); \
+        reads(&s_, 7, (uint32_t)(s_.of[ROWS].len / 12)); \
         refused(&s_, name, refusal, place); \
         leave(&s_); \
     } while (0)
 
 /* one read at number 7, accepted; the phase and sum it leaves, and its rows */
 #define ACCEPTED(name, phase, sum, phase_left, sum_left, rows_text, ...) do { \
-        stage s_ = reader(64, 7, phase, sum); \
-        table(&s_, ENTRIES(__VA_ARGS__)); \
-        reads(&s_, 7, (uint32_t)(s_.rows.len / 12)); \
+        desk s_ = reader(64, 7, phase, sum); \
+        table(&s_, LIST(__VA_ARGS__)); \
+        reads(&s_, 7, (uint32_t)(s_.of[ROWS].len / 12)); \
         finished(&s_, name); \
-        STATE_IS(&s_, name, 64, 8, phase_left, sum_left); \
-        rows_are(&s_, name, rows_text); \
+        reader_is(&s_, name, 64, 8, phase_left, sum_left); \
+        slice_is(&s_, ROWS, name, rows_text); \
         leave(&s_); \
     } while (0)
 
@@ -29,24 +29,24 @@ static void reading_13(void)
     static const uint32_t numbers[] = { 0, 1, 65535, 65536, 65537, 0xFFFFFFFF };
     size_t i;
     uint32_t phase;
-    stage s = reader(64, 65535, 0, 0);
-    table(&s, ENTRIES(0x80000040));
+    desk s = reader(64, 65535, 0, 0);
+    table(&s, LIST(0x80000040));
     reads(&s, 65535, 1);
     finished(&s, "reading 13: group 65,535 is accepted");
-    STATE_IS(&s, "reading 13: group 65,535 is accepted", 64, 65536, 0, 0);
+    reader_is(&s, "reading 13: group 65,535 is accepted", 64, 65536, 0, 0);
     for (i = 0; i < sizeof numbers / sizeof *numbers; i++) {
         reads(&s, numbers[i], 1);
         refused(&s, "reading 13: after it every number is 5", 5, 0);
         reads(&s, numbers[i], 0);
         refused(&s, "reading 13: before 6", 5, 0);
     }
-    relend(&s.group, 65);
+    relend(&s.of[GROUP], 65);
     reads(&s, 65536, 1);
     refused(&s, "reading 13: after 4", 4, 0);
     leave(&s);
     for (phase = 0; phase < 3; phase++) {
         s = reader(64, 65536, phase, phase * 9);
-        table(&s, ENTRIES(0x80000040));
+        table(&s, LIST(0x80000040));
         reads(&s, 65536, 1);
         refused(&s, "reading 13: in each phase", 5, 0);
         leave(&s);
@@ -143,14 +143,14 @@ static void reading_18(void)
     static const uint8_t fills[] = { 0x00, 0xFF, 0x80, 0x43, 0x07 };
     size_t i;
     for (i = 0; i < sizeof fills; i++) {
-        stage s = reader(64, 7, 0, 0);
-        memset(s.group.at, fills[i], 64);
-        put(s.group.at + 28, 0x63000003);
-        put(s.group.at + 24, 0x8000003D);
-        relend(&s.rows, 40);
+        desk s = reader(64, 7, 0, 0);
+        memset(s.of[GROUP].at, fills[i], 64);
+        put(s.of[GROUP].at + 28, 0x63000003);
+        put(s.of[GROUP].at + 24, 0x8000003D);
+        relend(&s.of[ROWS], 40);
         reads(&s, 7, 2);
         finished(&s, "reading 18: other bytes are never looked at");
-        rows_are(&s, "reading 18: other bytes are never looked at",
+        slice_is(&s, ROWS, "reading 18: other bytes are never looked at",
                  "00 00 00 06 00 00 00 00 00 00 00 03 00 00 00 07 00 00 00 03 00 00 00 3D EE*16");
         leave(&s);
     }
@@ -186,18 +186,18 @@ static void reading_20(void)
 
 static void reading_21(void)
 {
-    stage s = reader(64, 7, 0, 0);
-    table(&s, ENTRIES(0x0F000000, 0x4A000003, 0x8800003D));
+    desk s = reader(64, 7, 0, 0);
+    table(&s, LIST(0x0F000000, 0x4A000003, 0x8800003D));
     reads(&s, 7, 3);
     finished(&s, "reading 21: b4 set at once");
-    table(&s, ENTRIES(0x40000002, 0x8000003E));
+    table(&s, LIST(0x40000002, 0x8000003E));
     reads(&s, 8, 2);
     finished(&s, "reading 21: b4 begins anew inside a record");
-    table(&s, ENTRIES(0x60000002, 0x01000007, 0x0F000000, 0x8800003E));
+    table(&s, LIST(0x60000002, 0x01000007, 0x0F000000, 0x8800003E));
     reads(&s, 9, 4);
     finished(&s, "reading 21: b4 begins at any entry");
-    STATE_IS(&s, "reading 21", 64, 10, 0, 0);
-    table(&s, ENTRIES(0x07000000, 0x88000040));
+    reader_is(&s, "reading 21", 64, 10, 0, 0);
+    table(&s, LIST(0x07000000, 0x88000040));
     reads(&s, 10, 2);
     finished(&s, "reading 21: b4 begins at the skip");
     leave(&s);
@@ -219,11 +219,11 @@ static void flags(void)
             if (wanted == 0 && kind == 0) wanted = 10;
             if (wanted) REFUSED("every flag", 0, 0, wanted, 2, b4 ? 0x0F000000 : 0x07000000, flag << 24 | 1, 0x88000040);
             else {
-                stage s = reader(64, 7, 0, 0);
-                table(&s, ENTRIES(b4 ? 0x0F000000 : 0x07000000, flag << 24 | 1, kind == 2 ? 0x88000040 : 0x8800003F));
+                desk s = reader(64, 7, 0, 0);
+                table(&s, LIST(b4 ? 0x0F000000 : 0x07000000, flag << 24 | 1, kind == 2 ? 0x88000040 : 0x8800003F));
                 reads(&s, 7, 3);
                 finished(&s, "every flag");
-                check(get(s.rows.at + 12) == kind, "every flag", "kind");
+                check(get(s.of[ROWS].at + 12) == kind, "every flag", "kind");
                 leave(&s);
             }
         }
@@ -235,7 +235,8 @@ static void follow(void)
     static const uint32_t one[8] = { 0, 0x0100000A, 0x07000001, 0x40000001, 0x42000001, 0x60000001, 0x63000001, 0x80000000 };
     static const struct { const char *name, *allowed; uint32_t phase, before; } places[] = {
         { "free", "2467", 0, 0 }, { "inside", "35", 1, 0 }, { "owed", "1", 2, 0 }, { "after total", "2467", 2, 0x0100000A },
-        { "after separator", "2467", 0, 0x07000000 }, { "after entire", "2467", 0, 0x63000001 }, { "after start", "7", 0, 0x42000001 },
+        { "after separator", "2467", 0, 0x07000000 }, { "after entire", "2467", 0, 0x63000001 },
+        { "after start", "7", 0, 0x42000001 },
         { "after middle", "7", 1, 0x40000001 }, { "after last", "17", 1, 0x60000001 },
     };
     size_t i;
@@ -244,10 +245,10 @@ static void follow(void)
         for (kind = 1; kind <= 7; kind++) {
             uint32_t k = places[i].before ? 2 : 1, sum = places[i].phase == 1 ? 9 : places[i].phase == 2 ? 10 : 0, data;
             int allowed = strchr(places[i].allowed, '0' + (int)kind) != 0;
-            stage s = reader(64, 7, places[i].phase, sum);
+            desk s = reader(64, 7, places[i].phase, sum);
             data = places[i].before && places[i].before != 0x07000000 && places[i].before != 0x0100000A ? 1 : 0;
             table(&s, 4, (uint32_t[4]){ places[i].before, 0, 0, 0 });
-            put(s.group.at + 32 - 4 * k, one[kind] + (kind == 7 ? 64 - data : 0));
+            put(entry(&s.of[GROUP], k), one[kind] + (kind == 7 ? 64 - data : 0));
             /* a skip stands last; any other kind is followed by what breaks rule 8 at the next place */
             reads(&s, 7, kind == 7 ? k : k + 1);
             if (allowed && kind == 7) finished(&s, places[i].name);
@@ -261,26 +262,28 @@ static void follow(void)
 static void largest_table(void)
 {
     uint32_t k;
-    stage s = reader(126632, 7, 0, 0);
-    for (k = 1; k < 31650; k++) put(s.group.at + 126600 - 4 * k, 0x07000000 + k % 2);
-    put(s.group.at, 0x8001EEA8);
-    relend(&s.rows, 379800);
+    desk s = reader(126632, 7, 0, 0);
+    for (k = 1; k < 31650; k++) put(entry(&s.of[GROUP], k), 0x07000000 + k % 2);
+    put(s.of[GROUP].at, 0x8001EEA8);
+    relend(&s.of[ROWS], 379800);
     reads(&s, 7, 31651);
     refused(&s, "31,651 entries", 6, 0);
-    put(s.group.at, 0x8001EEA7);
+    put(s.of[GROUP].at, 0x8001EEA7);
     reads(&s, 7, 31650);
     refused(&s, "31,650 entries, the last one wrong", 13, 31650);
-    put(s.group.at, 0x8001EEA8);
-    relend(&s.rows, 379799);
+    put(s.of[GROUP].at, 0x8001EEA8);
+    relend(&s.of[ROWS], 379799);
     reads(&s, 7, 31650);
     refused(&s, "31,650 entries, a row byte short", 7, 0);
-    relend(&s.rows, 379800);
+    relend(&s.of[ROWS], 379800);
     reads(&s, 7, 31650);
     finished(&s, "31,650 entries");
-    STATE_IS(&s, "31,650 entries", 126632, 8, 0, 0);
-    for (k = 1; k < 31650; k++)
-        check(get(s.rows.at + 12 * k - 12) == 2 && get(s.rows.at + 12 * k - 8) == 0 && get(s.rows.at + 12 * k - 4) == k % 2, "31,650 entries", "row");
-    check(get(s.rows.at + 379788) == 7 && get(s.rows.at + 379792) == 0 && get(s.rows.at + 379796) == 126632, "31,650 entries", "skip");
+    reader_is(&s, "31,650 entries", 126632, 8, 0, 0);
+    for (k = 1; k <= 31650; k++) {
+        const uint8_t *row = s.of[ROWS].at + DDS_ROW_LEN * (k - 1);
+        int same = k < 31650 ? get(row) == 2 && get(row + 8) == k % 2 : get(row) == 7 && get(row + 8) == 126632;
+        check(same && get(row + 4) == 0, "31,650 entries", "row");
+    }
     leave(&s);
 }
 

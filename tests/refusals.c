@@ -1,7 +1,7 @@
 /* Every refusal of every call, and their order: each set of faults that can stand together is tried, and the first in
    document 01's order must be the one answered. Every slice is compared before and after. */
 
-#include "guard.h"
+#include "groups.h"
 
 /* ---- Start: 2, 3 */
 
@@ -15,9 +15,9 @@ static void start_refusals(void)
     };
     size_t i;
     for (i = 0; i < sizeof cases / sizeof *cases; i++) {
-        stage r = reader(64, 1, 0, 0), w = writer(64, 1, 0, 0, 0, 0, 0, 0);
-        relend(&r.state, 16);
-        relend(&w.state, 32);
+        desk r = reader(64, 1, 0, 0), w = writer(64, 1, 0, 0, 0, 0, 0, 0);
+        relend(&r.of[STATE], DDS_READER_LEN);
+        relend(&w.of[STATE], DDS_WRITER_LEN);
         reader_starts(&r, cases[i].size, cases[i].first);
         writer_starts(&w, cases[i].size, cases[i].first);
         if (cases[i].refusal) {
@@ -26,8 +26,8 @@ static void start_refusals(void)
         } else {
             finished(&r, "reader start");
             finished(&w, "writer start");
-            STATE_IS(&r, "reader start", cases[i].size, cases[i].first, 0, 0);
-            STATE_IS(&w, "writer start", cases[i].size, cases[i].first, 0, 0, 0, 0, 0, 0);
+            reader_is(&r, "reader start", cases[i].size, cases[i].first, 0, 0);
+            writer_is(&w, "writer start", cases[i].size, cases[i].first, 0, 0, 0, 0, 0, 0);
         }
         leave(&r);
         leave(&w);
@@ -42,17 +42,17 @@ static void read_order(void)
     uint32_t faults, i;
     for (faults = 0; faults < 64; faults++) {
         uint32_t entries = faults & 8 ? 9 : 3;
-        stage s = reader(64, 5, 0, faults & 1 ? 7 : 0);
-        table(&s, ENTRIES(0x6300000A, 0x07000001, 0x80000036));
-        if (faults & 32) s.group.at[28] = 0x43;
-        if (faults & 2) relend(&s.group, 63);
-        relend(&s.rows, faults & 16 ? 12 * entries - 1 : 12 * entries);
+        desk s = reader(64, 5, 0, faults & 1 ? 7 : 0);
+        table(&s, LIST(0x6300000A, 0x07000001, 0x80000036));
+        if (faults & 32) s.of[GROUP].at[28] = 0x43;
+        if (faults & 2) relend(&s.of[GROUP], 63);
+        relend(&s.of[ROWS], faults & 16 ? 12 * entries - 1 : 12 * entries);
         reads(&s, faults & 4 ? 6 : 5, entries);
         for (i = 0; i < 6 && !(faults >> i & 1); i++) { }
         if (i < 6) refused(&s, "read, order", order[i], order[i] == 8);
         else {
             finished(&s, "read, no fault");
-            STATE_IS(&s, "read, no fault", 64, 6, 0, 0);
+            reader_is(&s, "read, no fault", 64, 6, 0, 0);
         }
         leave(&s);
     }
@@ -65,31 +65,31 @@ static void read_refusals(void)
     static const size_t groups[] = { 0, 1, 32, 63, 65, 128, 126632 };
     static const size_t rows[] = { 0, 1, 12, 23 };
     size_t i;
-    stage s = reader(64, 7, 0, 0);
-    table(&s, ENTRIES(0x07000000, 0x80000040));
+    desk s = reader(64, 7, 0, 0);
+    table(&s, LIST(0x07000000, 0x80000040));
     for (i = 0; i < sizeof numbers / sizeof *numbers; i++) { reads(&s, numbers[i], 2); refused(&s, "read 5", 5, 0); }
     for (i = 0; i < sizeof counts / sizeof *counts; i++) { reads(&s, 7, counts[i]); refused(&s, "read 6", 6, 0); }
     for (i = 0; i < sizeof rows / sizeof *rows; i++) {
-        relend(&s.rows, rows[i]);
+        relend(&s.of[ROWS], rows[i]);
         reads(&s, 7, 2);
         refused(&s, "read 7", 7, 0);
     }
     for (i = 0; i < sizeof groups / sizeof *groups; i++) {
-        relend(&s.group, groups[i]);
+        relend(&s.of[GROUP], groups[i]);
         reads(&s, 7, 2);
         refused(&s, "read 4", 4, 0);
     }
     leave(&s);
     s = reader(67, 7, 0, 0); /* 32 + 4n at most L: eight entries for L = 64 to 67, nine from 68 */
-    table(&s, ENTRIES(0x07000000, 0x07000000, 0x07000000, 0x07000000, 0x07000000, 0x07000000, 0x07000000, 0x80000043));
-    relend(&s.rows, 12 * 9);
+    table(&s, LIST(0x07000000, 0x07000000, 0x07000000, 0x07000000, 0x07000000, 0x07000000, 0x07000000, 0x80000043));
+    relend(&s.of[ROWS], 12 * 9);
     reads(&s, 7, 9);
     refused(&s, "read 6: nine entries in 67 bytes", 6, 0);
     reads(&s, 7, 8);
     finished(&s, "eight entries in 67 bytes");
     leave(&s);
     s = reader(68, 7, 0, 0);
-    table(&s, ENTRIES(0x07000000, 0x07000000, 0x07000000, 0x07000000, 0x07000000, 0x07000000, 0x07000000, 0x07000001, 0x80000044));
+    table(&s, LIST(0x07000000, 0x07000000, 0x07000000, 0x07000000, 0x07000000, 0x07000000, 0x07000000, 0x07000001, 0x80000044));
     reads(&s, 7, 9);
     finished(&s, "nine entries in 68 bytes");
     leave(&s);
@@ -108,17 +108,17 @@ static void read_entry_refusals(void)
     size_t i;
     for (i = 0; i < sizeof faults / sizeof *faults; i++)
         for (k = 1; k <= 4; k++) {
-            stage s = reader(64, 1, 0, 0);
-            table(&s, ENTRIES(0x0F000000, 0x0F000001, 0x0F000000, 0x0F000001, 0x88000040));
-            put(s.group.at + 32 - 4 * k, faults[i].entry);
+            desk s = reader(64, 1, 0, 0);
+            table(&s, LIST(0x0F000000, 0x0F000001, 0x0F000000, 0x0F000001, 0x88000040));
+            put(entry(&s.of[GROUP], k), faults[i].entry);
             if (faults[i].refusal == 9 && k == 1) { leave(&s); continue; } /* no entry before it has b4 set */
             reads(&s, 1, 5);
             refused(&s, "read, entry refusal", faults[i].refusal, k);
             leave(&s);
         }
     for (k = 0; k <= 65; k++) {
-        stage s = reader(64, 1, 0, 0);
-        table(&s, ENTRIES(0x63000005, 0x63000004, 0x80000000 + k));
+        desk s = reader(64, 1, 0, 0);
+        table(&s, LIST(0x63000005, 0x63000004, 0x80000000 + k));
         reads(&s, 1, 3);
         if (k == 55) finished(&s, "skip 64 - 9"); else refused(&s, "read 13", 13, 3);
         leave(&s);
@@ -128,14 +128,14 @@ static void read_entry_refusals(void)
 /* the scan stops at the first entry that breaks a rule, whatever the numbers of later ones */
 static void read_first_entry(void)
 {
-    stage s = reader(64, 1, 0, 0);
-    table(&s, ENTRIES(0x63000001, 0x63000000, 0x43000000, 0x80000000));
+    desk s = reader(64, 1, 0, 0);
+    table(&s, LIST(0x63000001, 0x63000000, 0x43000000, 0x80000000));
     reads(&s, 1, 4);
     refused(&s, "11 at 2 before 8 at 3", 11, 2);
-    table(&s, ENTRIES(0x6B000011, 0x07000000, 0x80000000));
+    table(&s, LIST(0x6B000011, 0x07000000, 0x80000000));
     reads(&s, 1, 3);
     refused(&s, "9 at 2, after a keeping entry 1", 9, 2);
-    table(&s, ENTRIES(0x6B000015, 0x07000000, 0x80000000));
+    table(&s, LIST(0x6B000015, 0x07000000, 0x80000000));
     reads(&s, 1, 3);
     refused(&s, "12 at 1 before 9 at 2", 12, 1);
     leave(&s);
@@ -148,8 +148,8 @@ static void record_order(void)
     static const uint32_t order[6] = { 1, 1, 4, 14, 15, 16 };
     uint32_t faults, i;
     for (faults = 0; faults < 64; faults++) {
-        stage s = writer(64, faults & 8 ? 65536 : 9, 1, 40, 0, faults & 1 ? 1 : 0, 0, 30);
-        if (faults & 4) relend(&s.group, 65);
+        desk s = writer(64, faults & 8 ? 65536 : 9, 1, 40, 0, faults & 1 ? 1 : 0, 0, 30);
+        if (faults & 4) relend(&s.of[GROUP], 65);
         offer(&s, faults & 16 ? 0 : faults & 32 ? 29 : 30);
         records(&s, faults & 2 ? 2 : 0);
         for (i = 0; i < 6 && !(faults >> i & 1); i++) { }
@@ -166,7 +166,7 @@ static void record_refusals(void)
     uint32_t phase;
     size_t i;
     for (phase = 0; phase < 3; phase++) {
-        stage s = writer(64, 9, phase, phase * 40, 0, 0, 0, phase == 1 ? 30 : 0);
+        desk s = writer(64, 9, phase, phase * 40, 0, 0, 0, phase == 1 ? 30 : 0);
         records(&s, 0);
         refused(&s, "record of 0 bytes", 15, 0);
         records(&s, 1);
@@ -176,7 +176,7 @@ static void record_refusals(void)
         refused(&s, "record of 16,777,216 bytes", 15, 0);
         offer(&s, 30);
         for (i = 0; i < sizeof groups / sizeof *groups; i++) {
-            relend(&s.group, groups[i]);
+            relend(&s.of[GROUP], groups[i]);
             records(&s, 0);
             refused(&s, "record 4", 4, 0);
         }
@@ -190,7 +190,7 @@ static void record_refusals(void)
         leave(&s);
     }
     for (i = 0; i < sizeof rests / sizeof *rests; i++) {
-        stage s = writer(64, 9, 1, 40, 0, 0, 0, 30);
+        desk s = writer(64, 9, 1, 40, 0, 0, 0, 30);
         offer(&s, rests[i]);
         records(&s, 1);
         refused(&s, "record 16", 16, 0);
@@ -206,8 +206,8 @@ static void separator_order(void)
     uint32_t faults, i;
     for (faults = 0; faults < 64; faults++) {
         uint32_t inside = faults & 16 ? 1 : 0;
-        stage s = writer(64, faults & 8 ? 65536 : 9, inside, inside * 40, 0, 0, faults & 1 ? 1 : 0, inside * 30);
-        if (faults & 4) relend(&s.group, 65);
+        desk s = writer(64, faults & 8 ? 65536 : 9, inside, inside * 40, 0, 0, faults & 1 ? 1 : 0, inside * 30);
+        if (faults & 4) relend(&s.of[GROUP], 65);
         separates(&s, faults & 32 ? 2 : 1, faults & 2 ? 2 : 0);
         for (i = 0; i < 6 && !(faults >> i & 1); i++) { }
         if (i < 6) refused(&s, "separator, order", order[i], 0);
@@ -220,7 +220,7 @@ static void separator_refusals(void)
 {
     static const uint32_t values[] = { 2, 3, 255, 256, 257, 65536, 0x01000000, 0x80000000, 0xFFFFFFFF };
     size_t i;
-    stage s = writer(64, 9, 0, 0, 5, 2, 1, 0), o = writer(64, 9, 2, 45, 0, 0, 0, 0);
+    desk s = writer(64, 9, 0, 0, 5, 2, 1, 0), o = writer(64, 9, 2, 45, 0, 0, 0, 0);
     for (i = 0; i < sizeof values / sizeof *values; i++) {
         separates(&s, values[i], 0);
         refused(&s, "separator 18, free", 18, 0);
@@ -236,7 +236,7 @@ static void separator_refusals(void)
     s = writer(64, 9, 1, 45, 0, 0, 0, 3);
     separates(&s, 0, 1);
     refused(&s, "separator 17", 17, 0);
-    relend(&s.group, 0);
+    relend(&s.of[GROUP], 0);
     separates(&s, 0, 1);
     refused(&s, "separator 4", 4, 0);
     leave(&s);
@@ -251,8 +251,9 @@ static void end_order(void)
     for (phase = 0; phase < 3; phase++)
         for (none = 0; none < 2; none++)
             for (faults = 0; faults < 8; faults++) {
-                stage s = writer(64, none ? 65536 : 9, phase, phase * 40, 0, 0, 0, (phase == 1 ? 30 : 0) + (faults & 1 ? 16777215 : 0));
-                if (faults & 4) relend(&s.group, 65);
+                uint32_t rest = (phase == 1 ? 30 : 0) + (faults & 1 ? 16777215 : 0);
+                desk s = writer(64, none ? 65536 : 9, phase, phase * 40, 0, 0, 0, rest);
+                if (faults & 4) relend(&s.of[GROUP], 65);
                 ends(&s, faults & 2 ? 2 : 0);
                 for (i = 0; i < 3 && !(faults >> i & 1); i++) { }
                 if (i < 3) refused(&s, "end, order", order[i], 0);

@@ -2,9 +2,9 @@
    compared; then each run read by both, and what the rows give compared with what was written, after each group and at
    the end. Half the runs are read from the model's groups. COUNT is how many runs: runs [COUNT]. */
 
+#include "groups.h"
 #include "pair.h"
 
-#define LARGEST 126632
 #define MOST_ITEMS 64
 #define MOST_BYTES (1 << 20)
 
@@ -18,29 +18,28 @@ static uint32_t group_count, group_most, laid; /* items wholly laid, the last on
 
 static void failed(const char *what, uint32_t a, uint32_t b)
 {
-    if (failures++ < 10) fprintf(stderr, "  %s: %u, %u after %ld calls\n", what, a, b, calls);
+    if (failures++ < 10) fprintf(stderr, "  %s: %u, %u after %ld calls\n", what, a, b, compared);
 }
 
 /* puts the closed group away, and lends a buffer that holds something else */
-static void put_away(lent *s, int from_model)
+static void put_away(desk *d, int from_model)
 {
-    const uint8_t *answer = ours(&s->answer);
+    const uint8_t *answer = d->of[ANSWER].at;
     if (group_count == group_most) {
         group_most = group_most ? 2 * group_most : 64;
         groups = realloc(groups, group_most * sizeof *groups);
         if (!groups) exit(2);
     }
-    groups[group_count].number = get(answer + 12);
-    groups[group_count].entries = get(answer + 16);
-    groups[group_count].image = malloc(s->group.len);
-    if (!groups[group_count].image) exit(2);
-    memcpy(groups[group_count].image, from_model ? theirs(&s->group) : ours(&s->group), s->group.len);
+    groups[group_count].number = get(answer + DDS_ANSWER_NUMBER);
+    groups[group_count].entries = get(answer + DDS_ANSWER_ENTRIES);
+    groups[group_count].image = memory(d->of[GROUP].len);
+    memcpy(groups[group_count].image, from_model ? twin_at(&d->of[GROUP]) : d->of[GROUP].at, d->of[GROUP].len);
     group_count++;
-    memset(ours(&s->group), (int)below(256), s->group.len);
+    memset(d->of[GROUP].at, (int)below(256), d->of[GROUP].len);
 }
 
-static int closes(const lent *s) { return get(ours(&s->answer) + 8) == 1; }
-static uint32_t phase_of(const lent *s) { return get(ours(&s->state) + 8); }
+static int closes(const desk *d) { return get(d->of[ANSWER].at + DDS_ANSWER_OUTCOME) == DDS_OUTCOME_CLOSED; }
+static uint32_t phase_of(const desk *d) { return get(d->of[STATE].at + DDS_STATE_PHASE); }
 
 static uint32_t length(uint32_t size)
 {
@@ -54,7 +53,7 @@ static uint32_t length(uint32_t size)
 }
 
 /* one item offered until it is laid; 0 where the run stops, refused 14 or broken off */
-static int offers(lent *s, uint32_t size, int from_model)
+static int offers(desk *d, uint32_t size, int from_model)
 {
     item *it = &written.items[written.n];
     uint32_t warn = one_in(8), refusal, i, taken = 0;
@@ -69,18 +68,17 @@ static int offers(lent *s, uint32_t size, int from_model)
     written.n++;
     for (;;) {
         if (it->separator) {
-            resize(&s->data, 0);
-            refusal = both_separator(s, it->count, warn);
+            refusal = both(d, SEPARATOR, it->count, warn, 0);
         } else {
-            resize(&s->data, it->count - taken);
-            memcpy(ours(&s->data), written.pool + it->at + taken, it->count - taken);
-            refusal = both_record(s, warn);
+            resize(&d->of[DATA], it->count - taken);
+            memcpy(d->of[DATA].at, written.pool + it->at + taken, it->count - taken);
+            refusal = both(d, RECORD, warn, 0, 0);
         }
         if (refusal == 14) return 0;
         if (refusal) { failed("a lawful call was refused", refusal, 0); return 0; }
-        if (!closes(s)) break;
-        taken += get(ours(&s->answer) + 20);
-        put_away(s, from_model);
+        if (!closes(d)) break;
+        taken += get(d->of[ANSWER].at + DDS_ANSWER_TAKEN);
+        put_away(d, from_model);
         if (!it->separator && taken == it->count) break;
         if (one_in(100)) return 0; /* broken off, or not laid */
     }
@@ -88,38 +86,36 @@ static int offers(lent *s, uint32_t size, int from_model)
     return 1;
 }
 
-static void writes(lent *s, uint32_t size, uint32_t first, int from_model)
+static void writes(desk *d, uint32_t size, uint32_t first, int from_model)
 {
     uint32_t items = below(MOST_ITEMS);
     written.n = written.bytes = group_count = laid = 0;
-    resize(&s->state, 32);
-    resize(&s->group, size);
-    resize(&s->rows, 0);
-    resize(&s->data, 0);
-    memset(ours(&s->group), (int)below(256), size);
-    both_start(s, 1, size, first);
-    while (items-- && offers(s, size, from_model))
-        if (one_in(12) && both_end(s, one_in(8)) == 0 && closes(s)) put_away(s, from_model);
-    if (both_end(s, 0) == 0 && closes(s)) put_away(s, from_model);
-    if (phase_of(s) == 2) laid--; /* no number remains for its total */
+    resize(&d->of[GROUP], size);
+    memset(d->of[GROUP].at, (int)below(256), size);
+    both(d, WRITER_START, size, first, 0);
+    while (items-- && offers(d, size, from_model))
+        if (one_in(12) && both(d, END, one_in(8), 0, 0) == 0 && closes(d)) put_away(d, from_model);
+    if (both(d, END, 0, 0, 0) == 0 && closes(d)) put_away(d, from_model);
+    if (phase_of(d) == DDS_PHASE_OWED) laid--; /* no number remains for its total */
 }
 
 /* reads the run and compares each item as it is finished; an open record's bytes so far as well */
-static void reads_back(lent *s, uint32_t size, uint32_t first)
+static void reads_back(desk *d, uint32_t size, uint32_t first)
 {
     uint32_t g, k, done = 0, so_far = 0, phase;
-    resize(&s->state, 16);
-    resize(&s->group, size);
-    resize(&s->data, 0);
-    both_start(s, 0, size, first);
+    resize(&d->of[GROUP], size);
+    both(d, READER_START, size, first, 0);
     for (g = 0; g < group_count; g++) {
-        resize(&s->rows, 12 * groups[g].entries + below(30));
-        memset(ours(&s->rows), (int)below(256), s->rows.len);
-        memcpy(ours(&s->group), groups[g].image, size);
-        if (g + 1 < group_count && both_read(s, groups[g + 1].number, groups[g].entries) != 5) failed("a later number", g, 0);
-        if (both_read(s, groups[g].number, groups[g].entries)) { failed("a written group was refused", get(ours(&s->answer)), g); return; }
+        resize(&d->of[ROWS], 12 * groups[g].entries + below(30));
+        memset(d->of[ROWS].at, (int)below(256), d->of[ROWS].len);
+        memcpy(d->of[GROUP].at, groups[g].image, size);
+        if (g + 1 < group_count && both(d, READ, groups[g + 1].number, groups[g].entries, 0) != 5) failed("a later number", g, 0);
+        if (both(d, READ, groups[g].number, groups[g].entries, 0)) {
+            failed("a written group was refused", d->refusal, g);
+            return;
+        }
         for (k = 0; k < groups[g].entries; k++) {
-            const uint8_t *row = ours(&s->rows) + 12 * k;
+            const uint8_t *row = d->of[ROWS].at + 12 * k;
             uint32_t kind = get(row), offset = get(row + 4), count = get(row + 8);
             const item *it = &written.items[done];
             if (kind == 7) continue;
@@ -127,28 +123,37 @@ static void reads_back(lent *s, uint32_t size, uint32_t first)
             if (it->separator != (kind == 2)) { failed("another item", done, kind); return; }
             if (kind == 2 && count != it->count) { failed("separator value", count, it->count); return; }
             if (kind >= 3 && kind <= 6) {
-                if (so_far + count > it->count || memcmp(ours(&s->group) + offset, written.pool + it->at + so_far, count)) {
+                if (so_far + count > it->count || memcmp(d->of[GROUP].at + offset, written.pool + it->at + so_far, count)) {
                     failed("record bytes", done, so_far);
                     return;
                 }
                 so_far += count;
             }
-            if ((kind == 1 || kind == 6) && (so_far != it->count || (kind == 1 && count != it->count))) { failed("record length", so_far, it->count); return; }
+            if ((kind == 1 || kind == 6) && (so_far != it->count || (kind == 1 && count != it->count))) {
+                failed("record length", so_far, it->count);
+                return;
+            }
             if (kind == 1 || kind == 2 || kind == 6) { done++; so_far = 0; }
         }
-        phase = phase_of(s);
-        if ((phase == 0) != (so_far == 0) || get(ours(&s->state) + 12) != so_far) failed("sum of an open record", phase, so_far);
+        phase = phase_of(d);
+        if ((phase == DDS_PHASE_FREE) != (so_far == 0) || get(d->of[STATE].at + DDS_STATE_SUM) != so_far)
+            failed("sum of an open record", phase, so_far);
     }
     if (done != laid) failed("less was read than was written", done, laid);
 }
 
 int main(int argc, char **argv)
 {
-    long count = argc > 1 ? atol(argv[1]) : 40000, i;
+    long count = count_of(argc, argv, 40000), i;
     uint32_t g;
-    lent w = lent_of(LARGEST, MOST_BYTES), r = lent_of(LARGEST, 1);
-    written.pool = malloc(MOST_BYTES);
-    if (!written.pool) return 2;
+    desk w = desk_for(RECORD), r = desk_for(READ);
+    lend_most(&w, STATE, DDS_WRITER_LEN);
+    lend_most(&w, GROUP, LARGEST);
+    lend_most(&w, DATA, MOST_BYTES);
+    lend_most(&r, STATE, DDS_READER_LEN);
+    lend_most(&r, GROUP, LARGEST);
+    lend_most(&r, ROWS, 3 * LARGEST + 30);
+    written.pool = memory(MOST_BYTES);
     for (i = 0; i < count; i++) {
         uint32_t size = one_in(1000) ? LARGEST : one_in(20) ? 64 + below(3000) : 64 + below(100);
         uint32_t first = one_in(10) ? 65535 - below(20) : 1 + below(65000);
@@ -156,10 +161,10 @@ int main(int argc, char **argv)
         reads_back(&r, size, first);
         for (g = 0; g < group_count; g++) free(groups[g].image);
     }
-    free_lent(&w);
-    free_lent(&r);
+    leave(&w);
+    leave(&r);
     free(written.pool);
     free(groups);
-    printf("runs: %ld runs, %ld calls compared, %ld differ\n", count, calls, failures);
+    printf("runs: %ld runs, %ld calls compared, %ld differ\n", count, compared, failures);
     return failures != 0;
 }

@@ -1,26 +1,26 @@
 /* Readings 5 and 9 to 12: which states are sound. A sound state lent with an empty group is refused 4 and another one 1,
    so that each condition is tried on both sides of each of its bounds; then states that no run reaches are served. */
 
-#include "guard.h"
+#include "groups.h"
 
-static void reader_is(uint32_t sound, uint32_t size, uint32_t next, uint32_t phase, uint32_t sum)
+static void try_reader(uint32_t sound, uint32_t size, uint32_t next, uint32_t phase, uint32_t sum)
 {
     char name[80];
-    stage s = reader(size, next, phase, sum);
+    desk s = reader(size, next, phase, sum);
     snprintf(name, sizeof name, "reader %u %u %u %u", size, next, phase, sum);
-    relend(&s.group, 0);
+    relend(&s.of[GROUP], 0);
     reads(&s, next, 1);
     refused(&s, name, sound ? 4 : 1, 0);
     leave(&s);
 }
 
-static void writer_is(uint32_t sound, uint32_t size, uint32_t next, uint32_t phase, uint32_t sum, uint32_t d, uint32_t e,
+static void try_writer(uint32_t sound, uint32_t size, uint32_t next, uint32_t phase, uint32_t sum, uint32_t d, uint32_t e,
                       uint32_t b4, uint32_t rest)
 {
     char name[120];
-    stage s = writer(size, next, phase, sum, d, e, b4, rest);
+    desk s = writer(size, next, phase, sum, d, e, b4, rest);
     snprintf(name, sizeof name, "writer %u %u %u %u %u %u %u %u", size, next, phase, sum, d, e, b4, rest);
-    relend(&s.group, 0);
+    relend(&s.of[GROUP], 0);
     records(&s, 0);
     refused(&s, name, sound ? 4 : 1, 0);
     separates(&s, 0, 1);
@@ -31,10 +31,10 @@ static void writer_is(uint32_t sound, uint32_t size, uint32_t next, uint32_t pha
 }
 
 /* what reader and writer share, on a writer with nothing in its group */
-static void both_are(uint32_t sound, uint32_t size, uint32_t next, uint32_t phase, uint32_t sum)
+static void try_both(uint32_t sound, uint32_t size, uint32_t next, uint32_t phase, uint32_t sum)
 {
-    reader_is(sound, size, next, phase, sum);
-    writer_is(sound, size, next, phase, sum, 0, 0, 0, phase == 1 ? 1 : 0);
+    try_reader(sound, size, next, phase, sum);
+    try_writer(sound, size, next, phase, sum, 0, 0, 0, phase == 1 ? 1 : 0);
 }
 
 static void shared(void)
@@ -42,144 +42,144 @@ static void shared(void)
     uint32_t phase;
     for (phase = 0; phase < 3; phase++) {
         uint32_t sum = 5 * phase;
-        both_are(1, 64, 1, phase, sum);
-        both_are(0, 63, 1, phase, sum);
-        both_are(0, 0, 1, phase, sum);
-        both_are(1, 126632, 1, phase, sum);
-        both_are(0, 126633, 1, phase, sum);
-        both_are(0, 0xFFFFFFFF, 1, phase, sum);
-        both_are(0, 0x80000040, 1, phase, sum);
-        both_are(0, 64, 0, phase, sum);
-        both_are(1, 64, 65535, phase, sum);
-        both_are(1, 64, 65536, phase, sum); /* reading 10: in every phase */
-        both_are(0, 64, 65537, phase, sum);
-        both_are(0, 64, 0xFFFFFFFF, phase, sum);
-        both_are(0, 64, 0x00010001, phase, sum);
+        try_both(1, 64, 1, phase, sum);
+        try_both(0, 63, 1, phase, sum);
+        try_both(0, 0, 1, phase, sum);
+        try_both(1, 126632, 1, phase, sum);
+        try_both(0, 126633, 1, phase, sum);
+        try_both(0, 0xFFFFFFFF, 1, phase, sum);
+        try_both(0, 0x80000040, 1, phase, sum);
+        try_both(0, 64, 0, phase, sum);
+        try_both(1, 64, 65535, phase, sum);
+        try_both(1, 64, 65536, phase, sum); /* reading 10: in every phase */
+        try_both(0, 64, 65537, phase, sum);
+        try_both(0, 64, 0xFFFFFFFF, phase, sum);
+        try_both(0, 64, 0x00010001, phase, sum);
     }
-    both_are(1, 64, 1, 0, 0);
-    both_are(0, 64, 1, 0, 1);
-    both_are(0, 64, 1, 0, 0xFFFFFFFF);
-    both_are(0, 64, 1, 1, 0);
-    both_are(1, 64, 1, 1, 1);
-    both_are(1, 64, 1, 1, 16777214); /* reading 9: whatever L and the number are */
-    both_are(0, 64, 1, 1, 16777215);
-    both_are(0, 64, 1, 1, 16777216);
-    both_are(0, 64, 1, 1, 0x01000001);
-    both_are(0, 64, 1, 1, 0xFFFFFFFF);
-    both_are(0, 64, 1, 2, 0);
-    both_are(0, 64, 1, 2, 1);
-    both_are(1, 64, 1, 2, 2);
-    both_are(1, 64, 1, 2, 16777215);
-    both_are(0, 64, 1, 2, 16777216);
-    both_are(0, 64, 1, 2, 0xFFFFFFFF);
+    try_both(1, 64, 1, 0, 0);
+    try_both(0, 64, 1, 0, 1);
+    try_both(0, 64, 1, 0, 0xFFFFFFFF);
+    try_both(0, 64, 1, 1, 0);
+    try_both(1, 64, 1, 1, 1);
+    try_both(1, 64, 1, 1, 16777214); /* reading 9: whatever L and the number are */
+    try_both(0, 64, 1, 1, 16777215);
+    try_both(0, 64, 1, 1, 16777216);
+    try_both(0, 64, 1, 1, 0x01000001);
+    try_both(0, 64, 1, 1, 0xFFFFFFFF);
+    try_both(0, 64, 1, 2, 0);
+    try_both(0, 64, 1, 2, 1);
+    try_both(1, 64, 1, 2, 2);
+    try_both(1, 64, 1, 2, 16777215);
+    try_both(0, 64, 1, 2, 16777216);
+    try_both(0, 64, 1, 2, 0xFFFFFFFF);
     for (phase = 3; phase; phase = phase < 0x80000000 ? phase * 2 : 0) { /* reading 12 */
-        both_are(0, 64, 1, phase, 0);
-        both_are(0, 64, 1, phase, 5);
-        both_are(0, 64, 1, phase + 1, 0);
-        both_are(0, 64, 1, phase + 2, 5);
+        try_both(0, 64, 1, phase, 0);
+        try_both(0, 64, 1, phase, 5);
+        try_both(0, 64, 1, phase + 1, 0);
+        try_both(0, 64, 1, phase + 2, 5);
     }
-    both_are(0, 64, 1, 256, 0);
-    both_are(0, 64, 1, 257, 5);
-    both_are(0, 64, 1, 0x01000002, 5);
-    both_are(0, 64, 1, 0xFFFFFFFF, 5);
+    try_both(0, 64, 1, 256, 0);
+    try_both(0, 64, 1, 257, 5);
+    try_both(0, 64, 1, 0x01000002, 5);
+    try_both(0, 64, 1, 0xFFFFFFFF, 5);
 }
 
 static void writers(void)
 {
     uint32_t e;
     for (e = 1; e < 8; e++) { /* free: d + 32 + 4(e + 1) at most L */
-        writer_is(1, 64, 9, 0, 0, 28 - 4 * e, e, 0, 0);
-        writer_is(1, 64, 9, 0, 0, 0, e, 1, 0);
-        writer_is(0, 64, 9, 0, 0, 29 - 4 * e, e, 0, 0);
-        writer_is(0, 64, 9, 0, 0, 29 - 4 * e, e, 1, 0);
+        try_writer(1, 64, 9, 0, 0, 28 - 4 * e, e, 0, 0);
+        try_writer(1, 64, 9, 0, 0, 0, e, 1, 0);
+        try_writer(0, 64, 9, 0, 0, 29 - 4 * e, e, 0, 0);
+        try_writer(0, 64, 9, 0, 0, 29 - 4 * e, e, 1, 0);
     }
-    writer_is(0, 64, 9, 0, 0, 0, 8, 0, 0);
-    writer_is(1, 126632, 9, 0, 0, 126592, 1, 0, 0);
-    writer_is(0, 126632, 9, 0, 0, 126593, 1, 0, 0);
-    writer_is(1, 126632, 9, 0, 0, 0, 31649, 1, 0);
-    writer_is(0, 126632, 9, 0, 0, 1, 31649, 1, 0);
-    writer_is(0, 126632, 9, 0, 0, 0, 31650, 1, 0);
-    writer_is(0, 64, 9, 0, 0, 0, 0x3FFFFFFF, 0, 0);          /* reading 5: no sum wraps round */
-    writer_is(0, 64, 9, 0, 0, 0, 0x40000000, 0, 0);
-    writer_is(0, 64, 9, 0, 0, 0xFFFFFFFF, 1, 0, 0);
-    writer_is(0, 64, 9, 0, 0, 0xFFFFFFFF, 0x3FFFFFFF, 0, 0);
-    writer_is(0, 64, 9, 0, 0, 0xFFFFFFE0, 1, 0, 0);
-    writer_is(0, 64, 9, 0, 0, 0xFFFFFFF0, 3, 1, 0);
-    writer_is(0, 64, 9, 0, 0, 4, 0xFFFFFFFF, 0, 0);
-    writer_is(0, 64, 9, 0, 0, 1, 0, 0, 0);                   /* d > 0 needs e > 0 */
-    writer_is(0, 64, 9, 0, 0, 28, 0, 0, 0);
-    writer_is(0, 64, 9, 0, 0, 0, 0, 1, 0);                   /* e = 0 means b4 clear */
-    writer_is(0, 64, 9, 0, 0, 0, 0, 2, 0);
-    writer_is(1, 64, 9, 0, 0, 0, 1, 1, 0);
-    writer_is(0, 64, 9, 0, 0, 0, 1, 2, 0);                   /* reading 12 */
-    writer_is(0, 64, 9, 0, 0, 0, 1, 256, 0);
-    writer_is(0, 64, 9, 0, 0, 0, 1, 0x01000001, 0);
-    writer_is(0, 64, 9, 0, 0, 0, 1, 0xFFFFFFFF, 0);
-    writer_is(0, 64, 9, 0, 0, 0, 0, 0, 1);                   /* reading 11: else the rest is 0, free and owed */
-    writer_is(0, 64, 9, 0, 0, 5, 1, 0, 1);
-    writer_is(0, 64, 9, 0, 0, 5, 1, 0, 0xFFFFFFFF);
-    writer_is(0, 64, 9, 2, 45, 0, 0, 0, 1);
-    writer_is(0, 64, 9, 2, 16777215, 0, 0, 0, 0xFFFFFFFF);
-    writer_is(1, 64, 65535, 0, 0, 20, 2, 1, 0);              /* at 65,536 d = e = 0 */
-    writer_is(1, 64, 65536, 0, 0, 0, 0, 0, 0);
-    writer_is(0, 64, 65536, 0, 0, 20, 2, 0, 0);
-    writer_is(0, 64, 65536, 0, 0, 0, 1, 0, 0);
-    writer_is(0, 64, 65536, 0, 0, 0, 1, 1, 0);
+    try_writer(0, 64, 9, 0, 0, 0, 8, 0, 0);
+    try_writer(1, 126632, 9, 0, 0, 126592, 1, 0, 0);
+    try_writer(0, 126632, 9, 0, 0, 126593, 1, 0, 0);
+    try_writer(1, 126632, 9, 0, 0, 0, 31649, 1, 0);
+    try_writer(0, 126632, 9, 0, 0, 1, 31649, 1, 0);
+    try_writer(0, 126632, 9, 0, 0, 0, 31650, 1, 0);
+    try_writer(0, 64, 9, 0, 0, 0, 0x3FFFFFFF, 0, 0);          /* reading 5: no sum wraps round */
+    try_writer(0, 64, 9, 0, 0, 0, 0x40000000, 0, 0);
+    try_writer(0, 64, 9, 0, 0, 0xFFFFFFFF, 1, 0, 0);
+    try_writer(0, 64, 9, 0, 0, 0xFFFFFFFF, 0x3FFFFFFF, 0, 0);
+    try_writer(0, 64, 9, 0, 0, 0xFFFFFFE0, 1, 0, 0);
+    try_writer(0, 64, 9, 0, 0, 0xFFFFFFF0, 3, 1, 0);
+    try_writer(0, 64, 9, 0, 0, 4, 0xFFFFFFFF, 0, 0);
+    try_writer(0, 64, 9, 0, 0, 1, 0, 0, 0);                   /* d > 0 needs e > 0 */
+    try_writer(0, 64, 9, 0, 0, 28, 0, 0, 0);
+    try_writer(0, 64, 9, 0, 0, 0, 0, 1, 0);                   /* e = 0 means b4 clear */
+    try_writer(0, 64, 9, 0, 0, 0, 0, 2, 0);
+    try_writer(1, 64, 9, 0, 0, 0, 1, 1, 0);
+    try_writer(0, 64, 9, 0, 0, 0, 1, 2, 0);                   /* reading 12 */
+    try_writer(0, 64, 9, 0, 0, 0, 1, 256, 0);
+    try_writer(0, 64, 9, 0, 0, 0, 1, 0x01000001, 0);
+    try_writer(0, 64, 9, 0, 0, 0, 1, 0xFFFFFFFF, 0);
+    try_writer(0, 64, 9, 0, 0, 0, 0, 0, 1);                   /* reading 11: else the rest is 0, free and owed */
+    try_writer(0, 64, 9, 0, 0, 5, 1, 0, 1);
+    try_writer(0, 64, 9, 0, 0, 5, 1, 0, 0xFFFFFFFF);
+    try_writer(0, 64, 9, 2, 45, 0, 0, 0, 1);
+    try_writer(0, 64, 9, 2, 16777215, 0, 0, 0, 0xFFFFFFFF);
+    try_writer(1, 64, 65535, 0, 0, 20, 2, 1, 0);              /* at 65,536 d = e = 0 */
+    try_writer(1, 64, 65536, 0, 0, 0, 0, 0, 0);
+    try_writer(0, 64, 65536, 0, 0, 20, 2, 0, 0);
+    try_writer(0, 64, 65536, 0, 0, 0, 1, 0, 0);
+    try_writer(0, 64, 65536, 0, 0, 0, 1, 1, 0);
     for (e = 1; e < 3; e++) { /* inside or owed means d = e = 0, so b4 clear */
         uint32_t rest = e == 1 ? 7 : 0;
-        writer_is(1, 64, 9, e, 45, 0, 0, 0, rest);
-        writer_is(0, 64, 9, e, 45, 1, 0, 0, rest);
-        writer_is(0, 64, 9, e, 45, 0, 1, 0, rest);
-        writer_is(0, 64, 9, e, 45, 1, 1, 0, rest);
-        writer_is(0, 64, 9, e, 45, 0, 0, 1, rest);
-        writer_is(0, 64, 9, e, 45, 0, 1, 1, rest);
-        writer_is(0, 64, 9, e, 45, 0, 0x40000000, 0, rest);
-        writer_is(1, 64, 65536, e, 45, 0, 0, 0, rest);
+        try_writer(1, 64, 9, e, 45, 0, 0, 0, rest);
+        try_writer(0, 64, 9, e, 45, 1, 0, 0, rest);
+        try_writer(0, 64, 9, e, 45, 0, 1, 0, rest);
+        try_writer(0, 64, 9, e, 45, 1, 1, 0, rest);
+        try_writer(0, 64, 9, e, 45, 0, 0, 1, rest);
+        try_writer(0, 64, 9, e, 45, 0, 1, 1, rest);
+        try_writer(0, 64, 9, e, 45, 0, 0x40000000, 0, rest);
+        try_writer(1, 64, 65536, e, 45, 0, 0, 0, rest);
     }
-    writer_is(0, 64, 9, 1, 45, 0, 0, 0, 0);                  /* inside, the rest is 1 or more */
-    writer_is(1, 64, 9, 1, 45, 0, 0, 0, 16777170);           /* sum plus rest at most 16,777,215 */
-    writer_is(0, 64, 9, 1, 45, 0, 0, 0, 16777171);
-    writer_is(1, 64, 9, 1, 16777214, 0, 0, 0, 1);
-    writer_is(0, 64, 9, 1, 16777214, 0, 0, 0, 2);
-    writer_is(0, 64, 9, 1, 45, 0, 0, 0, 0xFFFFFFD3);         /* 45 + 0xFFFFFFD3 = 2^32 */
-    writer_is(0, 64, 9, 1, 45, 0, 0, 0, 0xFFFFFFD4);
-    writer_is(0, 64, 9, 1, 45, 0, 0, 0, 0xFFFFFFFF);
+    try_writer(0, 64, 9, 1, 45, 0, 0, 0, 0);                  /* inside, the rest is 1 or more */
+    try_writer(1, 64, 9, 1, 45, 0, 0, 0, 16777170);           /* sum plus rest at most 16,777,215 */
+    try_writer(0, 64, 9, 1, 45, 0, 0, 0, 16777171);
+    try_writer(1, 64, 9, 1, 16777214, 0, 0, 0, 1);
+    try_writer(0, 64, 9, 1, 16777214, 0, 0, 0, 2);
+    try_writer(0, 64, 9, 1, 45, 0, 0, 0, 0xFFFFFFD3);         /* 45 + 0xFFFFFFD3 = 2^32 */
+    try_writer(0, 64, 9, 1, 45, 0, 0, 0, 0xFFFFFFD4);
+    try_writer(0, 64, 9, 1, 45, 0, 0, 0, 0xFFFFFFFF);
 }
 
 /* reading 9: states that no run reaches are served, and nothing is looked up in the group buffer */
 static void served(void)
 {
-    stage s = reader(64, 1, 1, 16777214);
-    table(&s, ENTRIES(0x60000001, 0x01FFFFFF, 0x8000003F));
+    desk s = reader(64, 1, 1, 16777214);
+    table(&s, LIST(0x60000001, 0x01FFFFFF, 0x8000003F));
     reads(&s, 1, 3);
     finished(&s, "reading 9: inside at number 1");
-    STATE_IS(&s, "reading 9: inside at number 1", 64, 2, 0, 0);
+    reader_is(&s, "reading 9: inside at number 1", 64, 2, 0, 0);
     leave(&s);
     s = writer(64, 1, 1, 16777214, 0, 0, 0, 1);
     offer(&s, 1);
     records(&s, 0);
     finished(&s, "reading 9: L = 64, sum 16,777,214");
-    group_is(&s, "reading 9: L = 64, sum 16,777,214", "01 EE*23 01 FF FF FF 60 00 00 01 EE*32");
-    STATE_IS(&s, "reading 9: L = 64, sum 16,777,214", 64, 1, 0, 0, 1, 2, 0, 0);
+    slice_is(&s, GROUP, "reading 9: L = 64, sum 16,777,214", "01 EE*23 01 FF FF FF 60 00 00 01 EE*32");
+    writer_is(&s, "reading 9: L = 64, sum 16,777,214", 64, 1, 0, 0, 1, 2, 0, 0);
     leave(&s);
     s = writer(64, 1, 0, 0, 0, 3, 1, 0);
     offer(&s, 12);
     records(&s, 0);
     finished(&s, "reading 9: e = 3, d = 0, b4 set");
-    group_is(&s, "reading 9: e = 3, d = 0, b4 set", "01-0C EE*4 6B 00 00 0C EE*12 EE*32");
-    STATE_IS(&s, "reading 9: e = 3, d = 0, b4 set", 64, 1, 0, 0, 12, 4, 1, 0);
+    slice_is(&s, GROUP, "reading 9: e = 3, d = 0, b4 set", "01-0C EE*4 6B 00 00 0C EE*12 EE*32");
+    writer_is(&s, "reading 9: e = 3, d = 0, b4 set", 64, 1, 0, 0, 12, 4, 1, 0);
     leave(&s);
     s = writer(64, 1, 0, 0, 24, 1, 0, 0);
     ends(&s, 0);
     closed(&s, "reading 9: d at its bound with e = 1", 1, 2, 0);
-    group_is(&s, "reading 9: d at its bound with e = 1", "EE*24 80 00 00 28 EE*4 EE*32");
-    STATE_IS(&s, "reading 9: d at its bound with e = 1", 64, 2, 0, 0, 0, 0, 0, 0);
+    slice_is(&s, GROUP, "reading 9: d at its bound with e = 1", "EE*24 80 00 00 28 EE*4 EE*32");
+    writer_is(&s, "reading 9: d at its bound with e = 1", 64, 2, 0, 0, 0, 0, 0, 0);
     leave(&s);
     s = writer(64, 65535, 2, 2, 0, 0, 0, 0);
     ends(&s, 0);
     closed(&s, "a sum of 2 owed at 65,535", 65535, 2, 0);
-    group_is(&s, "a sum of 2 owed at 65,535", "00*24 80 00 00 40 01 00 00 02 EE*32");
-    STATE_IS(&s, "a sum of 2 owed at 65,535", 64, 65536, 0, 0, 0, 0, 0, 0);
+    slice_is(&s, GROUP, "a sum of 2 owed at 65,535", "00*24 80 00 00 40 01 00 00 02 EE*32");
+    writer_is(&s, "a sum of 2 owed at 65,535", 64, 65536, 0, 0, 0, 0, 0, 0);
     leave(&s);
 }
 

@@ -4,7 +4,7 @@
 
 #include <string.h>
 
-#include "third_model.h"
+#include "model.h"
 
 typedef uint64_t num;
 

@@ -1,95 +1,30 @@
 /* Sub Data Blocks by hand: the worked header, a block of each row of Table 3, every refusal of both calls and their order,
-   lengths, empty slices and fences. Every slice is compared before and after; expected bytes are worked out from change request
-   2026-01 and source document 003, 9.4.9. */
+   frame numbers. Every slice is compared before and after; expected bytes are worked out from change request 2026-01 and source
+   document 003, 9.4.9. */
 
-#define _DEFAULT_SOURCE
-#include "fence.h"
 #include "guard.h"
-
-/* ---- A desk: everything lent to one call, and what it returned. In the order of dds_subdata_make; both calls use all five. */
-
-enum { PACKS, ITEMS, TRACK, NUMBERS, ANSWER, SLICES };
-static const size_t right_length[SLICES] = { 8, 512, 560, 256, 24 };
-
-typedef struct { slice of[SLICES]; uint32_t refusal; } desk;
 
 /* Pack IDs of `pack`; at each place its own bytes: place k holds the byte k + 1 and then 10, 20, .. 70 */
 static desk laid(uint8_t pack)
 {
-    desk d;
+    desk d = desk_for(SUBDATA_MAKE);
     size_t i;
-    for (i = 0; i < SLICES; i++) d.of[i] = lend(right_length[i]);
-    memset(d.of[PACKS].at, pack, 8);
-    for (i = 0; i < 512; i++) d.of[ITEMS].at[i] = (uint8_t)(i % 8 == 0 ? i / 8 + 1 : 0x10 * (i % 8));
-    d.refusal = 99;
+    memset(d.of[PACKS].at, pack, DDS_PACKS_LEN);
+    for (i = 0; i < DDS_ITEMS_LEN; i++) d.of[ITEMS].at[i] = (uint8_t)(i % 8 == 0 ? i / 8 + 1 : 0x10 * (i % 8));
     return d;
 }
 
-static void clear(desk *d)
-{
-    size_t i;
-    for (i = 0; i < SLICES; i++) give_back(&d->of[i]);
-}
-
-static void keep_slices(desk *d)
-{
-    size_t i;
-    for (i = 0; i < SLICES; i++) keep(&d->of[i]);
-}
-
-static void came_back(desk *d, uint32_t refusal, const char *call)
-{
-    size_t i;
-    d->refusal = refusal;
-    for (i = 0; i < SLICES; i++) check(guarded(&d->of[i]), call, "guard bytes");
-}
-
-static void makes(desk *d, uint32_t area, uint32_t frame)
-{
-    slice *s = d->of;
-    keep_slices(d);
-    came_back(d, dds_subdata_make(area, frame, s[PACKS].at, s[PACKS].len, s[ITEMS].at, s[ITEMS].len, s[TRACK].at, s[TRACK].len,
-                                  s[NUMBERS].at, s[NUMBERS].len, s[ANSWER].at, s[ANSWER].len), "dds_subdata_make");
-    check(kept(&s[PACKS]) && kept(&s[ITEMS]), "dds_subdata_make", "Pack IDs and items stay");
-}
-
-static void reads_track(desk *d, uint32_t area, uint32_t frame)
-{
-    slice *s = d->of;
-    keep_slices(d);
-    came_back(d, dds_subdata_read(area, frame, s[TRACK].at, s[TRACK].len, s[PACKS].at, s[PACKS].len, s[ITEMS].at, s[ITEMS].len,
-                                  s[NUMBERS].at, s[NUMBERS].len, s[ANSWER].at, s[ANSWER].len), "dds_subdata_read");
-    check(kept(&s[TRACK]), "dds_subdata_read", "the track stays");
-}
-
-static int answers(const desk *d, uint32_t refusal, uint32_t place)
-{
-    const uint8_t *a = d->of[ANSWER].at;
-    int same = d->of[ANSWER].len == 24 && d->refusal == refusal && get(a) == refusal && get(a + 4) == place && get(a + 8) == 0
-        && get(a + 12) == 0 && get(a + 16) == 0 && get(a + 20) == 0;
-    if (!same && failures < 40) fprintf(stderr, "  wanted %u at %u, returned %u\n", refusal, place, d->refusal);
-    return same;
-}
-
-static void track_accepted(desk *d, const char *name) { check(answers(d, 0, 0), name, "accepted, answer of zeros"); }
-
-/* a refusal with its answer, and nothing else written */
-static void track_refused(desk *d, const char *name, uint32_t refusal, uint32_t place)
-{
-    check(answers(d, refusal, place), name, "answer");
-    check(kept(&d->of[PACKS]) && kept(&d->of[ITEMS]) && kept(&d->of[TRACK]) && kept(&d->of[NUMBERS]), name,
-          "a refusal writes the answer alone");
-}
+static void makes(desk *d, uint32_t area, uint32_t frame) { make(d, SUBDATA_MAKE, area, frame, 0); }
+static void reads(desk *d, uint32_t area, uint32_t frame) { make(d, SUBDATA_READ, area, frame, 0); }
 
 /* what stands at place k */
 static const uint8_t *place(const slice *items, size_t k) { return items->at + 8 * k; }
 
 static void blank(desk *d)
 {
-    memset(d->of[PACKS].at, LENT, 8);
-    memset(d->of[ITEMS].at, LENT, 512);
-    memset(d->of[NUMBERS].at, LENT, 256);
-    memset(d->of[ANSWER].at, LENT, 24);
+    static const int which[] = { PACKS, ITEMS, NUMBERS, ANSWER };
+    size_t i;
+    for (i = 0; i < sizeof which / sizeof *which; i++) memset(d->of[which[i]].at, LENT, d->of[which[i]].len);
 }
 
 /* ---- The worked header, and a block of each row of Table 3 */
@@ -124,52 +59,24 @@ static void table_three(void)
         size_t len;
         uint8_t *header = bytes(rows[i].header, &len), close[8];
         const uint8_t *block = d.of[TRACK].at + 35 * rows[i].block, *lent = place(&d.of[ITEMS], 4 * rows[i].block);
+        const uint8_t *numbers = d.of[NUMBERS].at + 16 * rows[i].block;
         memcpy(close, lent + 24, 8);
         if (rows[i].block % 2 == 0 && rows[i].pack == 6) memset(close, 0, 8);
         makes(&d, rows[i].area, rows[i].frame);
-        track_accepted(&d, "table 3");
+        accepted(&d, "table 3");
         check(len == 3 && memcmp(block, header, 3) == 0, "table 3", "header");
         check(memcmp(block + 3, lent, 24) == 0, "table 3", "items");
         check(memcmp(block + 27, close, 8) == 0, "table 3", "close");
-        for (p = 0; p < 4; p++)
-            check(get(d.of[NUMBERS].at + 4 * (4 * rows[i].block + p)) == (p < 3 ? rows[i].numbers[p] : 0), "table 3", "numbers");
+        for (p = 0; p < 4; p++) check(get(numbers + 4 * p) == (p < 3 ? rows[i].numbers[p] : 0), "table 3", "numbers");
         blank(&d);
-        reads_track(&d, rows[i].area, rows[i].frame);
-        track_accepted(&d, "table 3, read");
+        reads(&d, rows[i].area, rows[i].frame);
+        accepted(&d, "table 3, read");
         for (p = 0; p < 8; p++) check(d.of[PACKS].at[p] == rows[i].pack, "table 3, read", "Pack IDs");
         check(memcmp(lent, block + 3, 32) == 0, "table 3, read", "items and close");
-        for (p = 0; p < 4; p++)
-            check(get(d.of[NUMBERS].at + 4 * (4 * rows[i].block + p)) == (p < 3 ? rows[i].numbers[p] : 0), "table 3, read", "numbers");
+        for (p = 0; p < 4; p++) check(get(numbers + 4 * p) == (p < 3 ? rows[i].numbers[p] : 0), "table 3, read", "numbers");
         free(header);
-        clear(&d);
+        leave(&d);
     }
-}
-
-/* a whole track in the System Area's log, its Pack IDs mixed: all 560 bytes and all 64 numbers */
-static void whole_track(void)
-{
-    desk d = laid(7);
-    d.of[PACKS].at[1] = d.of[PACKS].at[7] = 6;
-    memset(d.of[ITEMS].at, 0x5A, 512);
-    makes(&d, 10, 72);
-    track_accepted(&d, "whole track");
-    check(holds(&d.of[TRACK], "A8 F0 58 5A*32, 00 81 81 5A*32, A8 E2 4A 5A*24 00*8, 00 83 83 5A*32, A8 F4 5C 5A*32, 00 85 85 5A*32,"
-                              "A8 F6 5E 5A*32, 00 87 87 5A*32, A8 F8 50 5A*32, 00 89 89 5A*32, A8 FA 52 5A*32, 00 8B 8B 5A*32,"
-                              "A8 FC 54 5A*32, 00 8D 8D 5A*32, A8 EE 46 5A*24 00*8, 00 8F 8F 5A*32"), "whole track", "track");
-    {
-        size_t block;
-        for (block = 0; block < 16; block++) {
-            const uint8_t *n = d.of[NUMBERS].at + 16 * block;
-            check(get(n) == (block % 2 ? 6u : 5u) && get(n + 4) == (block % 2 ? 8u : 7u) && get(n + 8) == (block % 2 ? 4u : 3u)
-                  && get(n + 12) == 0, "whole track", "numbers");
-        }
-    }
-    blank(&d);
-    reads_track(&d, 10, 72);
-    track_accepted(&d, "whole track, read");
-    check(holds(&d.of[PACKS], "07 06 07 07 07 07 07 06"), "whole track, read", "Pack IDs");
-    check(holds(&d.of[ITEMS], "5A*88 00*8 5A*376 00*8 5A*32"), "whole track, read", "items, the closes of Pack ID 6 zeros");
-    clear(&d);
 }
 
 /* ---- Making: 30, 32, 33 */
@@ -185,14 +92,14 @@ static void make_refusals(void)
         int may = 0;
         for (i = 0; i < 8; i++) may |= allowed[i] == area;
         makes(&d, area, 300);
-        if (may) track_accepted(&d, "make, area"); else track_refused(&d, "make, area", 32, 0);
-        clear(&d);
+        if (may) accepted(&d, "make, area"); else refused(&d, "make, area", 32, 0);
+        leave(&d);
     }
     for (i = 0; i < sizeof large / sizeof *large; i++) {
         desk d = laid(7);
         makes(&d, large[i], 300);
-        track_refused(&d, "make, an area above four bits", 32, 0);
-        clear(&d);
+        refused(&d, "make, an area above four bits", 32, 0);
+        leave(&d);
     }
     for (pack = 0; pack < 256; pack++)
         for (block = 0; block < 16; block += 2) {
@@ -200,21 +107,21 @@ static void make_refusals(void)
             d.of[PACKS].at[block / 2] = (uint8_t)pack;
             if (block < 14) d.of[PACKS].at[7] = 5; /* a later one is not told first */
             makes(&d, 12, 300);
-            if (pack != 6 && pack != 7) track_refused(&d, "make, Pack ID", 33, block);
-            else if (block < 14) track_refused(&d, "make, the last Pack ID", 33, 14);
-            else track_accepted(&d, "make, Pack ID");
-            clear(&d);
+            if (pack != 6 && pack != 7) refused(&d, "make, Pack ID", 33, block);
+            else if (block < 14) refused(&d, "make, the last Pack ID", 33, 14);
+            else accepted(&d, "make, Pack ID");
+            leave(&d);
         }
     for (faults = 0; faults < 8; faults++) { /* 30, 32, 33 in this order */
         desk d = laid(7);
         if (faults & 1) relend(&d.of[TRACK], 559);
         if (faults & 4) d.of[PACKS].at[3] = 8;
         makes(&d, faults & 2 ? 8 : 9, 1);
-        if (faults & 1) track_refused(&d, "make, order", 30, 0);
-        else if (faults & 2) track_refused(&d, "make, order", 32, 0);
-        else if (faults & 4) track_refused(&d, "make, order", 33, 6);
-        else track_accepted(&d, "make, no fault");
-        clear(&d);
+        if (faults & 1) refused(&d, "make, order", 30, 0);
+        else if (faults & 2) refused(&d, "make, order", 32, 0);
+        else if (faults & 4) refused(&d, "make, order", 33, 6);
+        else accepted(&d, "make, no fault");
+        leave(&d);
     }
 }
 
@@ -253,18 +160,18 @@ static void read_order(void)
         for (faults = 1; faults < 16; faults++) {
             desk d = made_track(6, 12);
             uint32_t wanted;
-            if (block % 2 && faults == OF_CLOSE) { clear(&d); continue; } /* an odd block's close is C1, whatever it holds */
+            if (block % 2 && faults == OF_CLOSE) { leave(&d); continue; } /* an odd block's close is C1, whatever it holds */
             spoil(d.of[TRACK].at + 35 * block, faults, 0x40, 0x01);
             wanted = first_of(block % 2 ? faults & ~(unsigned)OF_CLOSE : faults);
-            reads_track(&d, 12, 300);
-            track_refused(&d, "read, order at a block", wanted, block);
+            reads(&d, 12, 300);
+            refused(&d, "read, order at a block", wanted, block);
             for (later = block + 1; later < 16; later += 5)
                 for (more = 1; more < 8; more++) { /* whatever a later block has is not told */
                     spoil(d.of[TRACK].at + 35 * later, more, 0x08, 0x80);
-                    reads_track(&d, 12, 300);
-                    track_refused(&d, "read, a later block", wanted, block);
+                    reads(&d, 12, 300);
+                    refused(&d, "read, a later block", wanted, block);
                 }
-            clear(&d);
+            leave(&d);
         }
 }
 
@@ -278,84 +185,53 @@ static void read_refusals(void)
             uint8_t *at = d.of[TRACK].at + 35 * block, sw1 = at[0], sw2 = at[1];
             at[0] = (uint8_t)i;
             at[2] = at[0] ^ at[1];
-            reads_track(&d, 13, 300);
-            if (i == (block % 2 ? 0x00u : 0xD8u)) track_accepted(&d, "read, SW1"); else track_refused(&d, "read, SW1", 32, block);
+            reads(&d, 13, 300);
+            if (i == (block % 2 ? 0x00u : 0xD8u)) accepted(&d, "read, SW1"); else refused(&d, "read, SW1", 32, block);
             blank(&d);
             at[0] = sw1;
             at[1] = (uint8_t)i;
             at[2] = at[0] ^ at[1];
-            reads_track(&d, 13, 300);
-            if (block % 2 == 0 && i == 0xE0 + block) track_refused(&d, "read, Pack ID 6 over a close that is not zero", 34, block);
-            else if (i == (block % 2 ? 0x80 : 0xF0) + block) track_accepted(&d, "read, SW2");
-            else track_refused(&d, "read, SW2", 33, block);
+            reads(&d, 13, 300);
+            if (block % 2 == 0 && i == 0xE0 + block) refused(&d, "read, Pack ID 6 over a close that is not zero", 34, block);
+            else if (i == (block % 2 ? 0x80 : 0xF0) + block) accepted(&d, "read, SW2");
+            else refused(&d, "read, SW2", 33, block);
             blank(&d);
             at[1] = sw2;
             at[2] = (uint8_t)i;
-            reads_track(&d, 13, 300);
-            if (i == (uint32_t)(sw1 ^ sw2)) track_accepted(&d, "read, parity"); else track_refused(&d, "read, parity", 31, block);
-            clear(&d);
+            reads(&d, 13, 300);
+            if (i == (uint32_t)(sw1 ^ sw2)) accepted(&d, "read, parity"); else refused(&d, "read, parity", 31, block);
+            leave(&d);
         }
         for (i = 27; i < 35; i++) /* each byte of a close with Pack ID 6 */
             for (byte = 1; byte; byte = (uint8_t)(byte * 2)) {
                 desk d = made_track(6, 9);
                 d.of[TRACK].at[35 * block + i] = byte;
-                reads_track(&d, 9, 300);
-                if (block % 2) track_accepted(&d, "read, C1 bytes are carried"); else track_refused(&d, "read, close", 34, block);
-                clear(&d);
+                reads(&d, 9, 300);
+                if (block % 2) accepted(&d, "read, C1 bytes are carried"); else refused(&d, "read, close", 34, block);
+                leave(&d);
             }
     }
-    for (area = 0; area < 20; area++) { /* another area than the track's, allowed or not; the Device Area's own header is no better */
+    for (area = 0; area < 20; area++) { /* another area than the track's, allowed or not, the Device Area's too */
         desk d = made_track(6, 10);
-        reads_track(&d, area, 80);
-        if (area == 10) track_accepted(&d, "read, area"); else track_refused(&d, "read, area", 32, 0);
-        clear(&d);
+        reads(&d, area, 80);
+        if (area == 10) accepted(&d, "read, area"); else refused(&d, "read, area", 32, 0);
+        leave(&d);
         d = made_track(7, 1);
         for (block = 0; block < 16; block += 2) {
             d.of[TRACK].at[35 * block] = (uint8_t)(16 * area + 8);
             d.of[TRACK].at[35 * block + 2] = d.of[TRACK].at[35 * block] ^ d.of[TRACK].at[35 * block + 1];
         }
-        reads_track(&d, area, 80);
+        reads(&d, area, 80);
         if (area % 8 == 1 || area % 8 == 2 || area % 8 == 4 || area % 8 == 5) {
-            if (area < 16) track_accepted(&d, "read, each area"); else track_refused(&d, "read, an area above four bits", 32, 0);
+            if (area < 16) accepted(&d, "read, each area"); else refused(&d, "read, an area above four bits", 32, 0);
         } else {
-            track_refused(&d, "read, an area that is not allowed", 32, 0);
+            refused(&d, "read, an area that is not allowed", 32, 0);
         }
-        clear(&d);
+        leave(&d);
     }
 }
 
-/* ---- Slices: lengths, empty slices, all 24 bytes of the answer */
-
-static void slice_lengths(void)
-{
-    size_t which, i;
-    int call, spoilt, null;
-    for (call = 0; call < 2; call++)
-        for (spoilt = 0; spoilt < 2; spoilt++)
-            for (which = 0; which < SLICES; which++) {
-                const size_t right = right_length[which], lengths[] = { 0, 1, right - 1, right + 1, 2 * right, right + 256, right + 65536 };
-                for (i = 0; i < sizeof lengths / sizeof *lengths; i++)
-                    for (null = 0; null < (i == 0 ? 2 : 1); null++) {
-                        desk d = made_track(6, 12);
-                        memset(d.of[PACKS].at, 6, 8);
-                        if (spoilt) d.of[TRACK].at[2] ^= 1;
-                        if (spoilt) d.of[PACKS].at[0] = 0;
-                        if (null) { give_back(&d.of[which]); d.of[which] = lend_null(); } else relend(&d.of[which], lengths[i]);
-                        if (call) reads_track(&d, spoilt ? 0 : 12, 300); else makes(&d, spoilt ? 0 : 12, 300);
-                        if (which == ANSWER) {
-                            check(d.refusal == 1, "an answer slice of another length", "returns 1");
-                            check(kept(&d.of[PACKS]) && kept(&d.of[ITEMS]) && kept(&d.of[TRACK]) && kept(&d.of[NUMBERS])
-                                  && kept(&d.of[ANSWER]), "an answer slice of another length", "nothing is written at all");
-                        } else {
-                            track_refused(&d, "a slice of another length", 30, 0);
-                            relend(&d.of[ANSWER], 23);
-                            if (call) reads_track(&d, 12, 300); else makes(&d, 12, 300);
-                            check(d.refusal == 1 && kept(&d.of[ANSWER]), "both lengths", "1, and nothing is written at all");
-                        }
-                        clear(&d);
-                    }
-            }
-}
+/* ---- Frames */
 
 /* any frame number is taken: the log is 71 to 95 and nothing else */
 static void frames(void)
@@ -366,69 +242,22 @@ static void frames(void)
         desk d = laid(6);
         uint32_t wanted = frame[i] >= 71 && frame[i] <= 95 ? 5 : 3;
         makes(&d, 2, frame[i]);
-        track_accepted(&d, "frame");
+        accepted(&d, "frame");
         check(get(d.of[NUMBERS].at) == wanted, "frame", "make");
         blank(&d);
-        reads_track(&d, 2, frame[i]);
-        track_accepted(&d, "frame");
+        reads(&d, 2, frame[i]);
+        accepted(&d, "frame");
         check(get(d.of[NUMBERS].at) == wanted, "frame", "read");
-        clear(&d);
+        leave(&d);
     }
-}
-
-/* no byte outside a slice is read or written, and const slices are not written */
-static void fences(void)
-{
-    int end;
-    for (end = 0; end < 2; end++) {
-        uint8_t *packs = fenced(8, end), *items = fenced(512, end), *track = fenced(560, end), *numbers = fenced(256, end);
-        uint8_t *answer = fenced(24, end), *packs_back = fenced(8, end), *items_back = fenced(512, end);
-        memset(packs, 7, 8);
-        memset(items, 0x77, 512);
-        read_only(packs);
-        read_only(items);
-        check(dds_subdata_make(4, 9, packs, 8, items, 512, track, 560, numbers, 256, answer, 24) == 0, "fences", "make");
-        read_only(track);
-        check(dds_subdata_read(4, 9, track, 560, packs_back, 8, items_back, 512, numbers, 256, answer, 24) == 0, "fences", "read");
-        check(memcmp(packs, packs_back, 8) == 0 && memcmp(items, items_back, 512) == 0, "fences", "what was made is read");
-        check(dds_subdata_read(5, 9, track, 560, packs_back, 8, items_back, 512, numbers, 256, answer, 24) == 32, "fences", "refused");
-    }
-}
-
-/* lengths of 2^32 and more, in pages that are promised and not touched */
-static void long_slices(void)
-{
-#if SIZE_MAX > 0xFFFFFFFF
-    const size_t wide = (size_t)1 << 32;
-    uint8_t *none = mmap(0, wide + 4096, PROT_NONE, MAP_PRIVATE | MAP_ANONYMOUS | MAP_NORESERVE, -1, 0);
-    size_t which;
-    int call;
-    if (none == MAP_FAILED) { printf("track: slices above 2^32 bytes skipped, no address space\n"); return; }
-    for (call = 0; call < 2; call++)
-        for (which = 0; which < SLICES; which++) {
-            desk d = made_track(6, 12);
-            slice was = d.of[which], *s = &d.of[which];
-            memset(d.of[PACKS].at, 6, 8);
-            s->at = none; s->base = 0; s->len = wide + right_length[which];
-            if (call) reads_track(&d, 12, 300); else makes(&d, 12, 300);
-            if (which == ANSWER) check(d.refusal == 1, "long slices", "answer"); else track_refused(&d, "long slices", 30, 0);
-            *s = was;
-            clear(&d);
-        }
-    munmap(none, wide + 4096);
-#endif
 }
 
 int main(void)
 {
     table_three();
-    whole_track();
     make_refusals();
     read_order();
     read_refusals();
-    slice_lengths();
     frames();
-    fences();
-    long_slices();
     return finish("track");
 }

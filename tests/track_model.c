@@ -1,7 +1,7 @@
 /* Change request 2026-01 and source document 003, 9.4.9, in plain C, in the documents' order. It is written to be read beside
    them, not to be fast: numbers are 64 bits wide and headers are sums, not shifts. */
 
-#include "track_model.h"
+#include "model.h"
 
 typedef uint64_t num;
 

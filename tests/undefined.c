@@ -1,54 +1,118 @@
-/* For valgrind: no call may decide by bytes that it has no business with. The state that a start is lent, rows, answers, a group's
-   data, gap and last 32 bytes, and tracks, numbers and volumes that are to be made are memory that was never written here.
-   Without valgrind it shows only that the calls are accepted. */
+/* For valgrind: no call may decide by bytes that it has no business with. Each worked example is made with memory that was never
+   written where its text has bytes LENT: states at a start, answers, groups but their tables, rows, items, whatever is to be made
+   or filled. Then whole runs are written and read back from such memory. Without valgrind it shows only that the calls do their
+   work. */
 
-#include <stdlib.h>
-#include "guard.h"
+#include "examples.h"
 
+/* bytes that were never written; volatile, so that the compiler does not know it */
 static uint8_t *unwritten(size_t len)
 {
-    uint8_t *p = malloc(len);
-    if (!p) { fprintf(stderr, "no memory\n"); exit(2); }
-    return p;
+    uint8_t *volatile never = memory(len);
+    return never;
 }
 
-/* Records over groups of L bytes, written and read back, from states that were never written. */
-static void group_of(uint32_t L)
+static void lend_unwritten(span *one, size_t len)
 {
-    uint8_t *writer = unwritten(32), *reader = unwritten(16), *answer = unwritten(24), *group = unwritten(L), *data = unwritten(3 * L);
-    uint8_t *rows = unwritten(12 * (L / 4));
-    check(dds_writer_start(L, 1, writer, 32, answer, 24) == 0, "dds_writer_start", "accepted");
-    check(dds_reader_start(L, 1, reader, 16, answer, 24) == 0, "dds_reader_start", "accepted");
-    for (uint32_t k = 0; k < 5; k++) {
-        uint32_t n = get(writer + DDS_STATE_PHASE) == DDS_PHASE_INSIDE ? get(writer + DDS_STATE_REST) : k < 3 ? 3 * L - 200 / (k + 1) : 5;
-        if (n > 3 * L) n = 3 * L;
-        check(dds_record(writer, 32, group, L, data, n, 0, answer, 24) == 0, "dds_record", "accepted");
-        if (get(answer + DDS_ANSWER_OUTCOME) == DDS_OUTCOME_CLOSED) {
-            uint32_t number = get(answer + DDS_ANSWER_NUMBER), entries = get(answer + DDS_ANSWER_ENTRIES);
-            check(dds_read(reader, 16, group, L, number, entries, rows, 12 * (L / 4), answer, 24) == 0, "dds_read", "accepted");
-        }
+    free(one->at);
+    one->at = unwritten(len);
+    one->len = len;
+}
+
+static void free_all(span *lent)
+{
+    int i;
+    for (i = 0; i < SLICES; i++) free(lent[i].at);
+}
+
+/* the call, over an answer that was never written */
+static void returns(uint32_t wanted, span *lent, int call, uint32_t a, uint32_t b, uint32_t c)
+{
+    const uint32_t numbers[MOST_NUMBERS] = { a, b, c };
+    lend_unwritten(&lent[ANSWER], DDS_ANSWER_LEN);
+    check(calls[call].library(numbers, lent) == wanted, calls[call].name, wanted ? "refused" : "accepted");
+}
+
+/* ---- The examples */
+
+static void lend_business(const example *e, const worked *w, span *lent)
+{
+    const lent_slice *s;
+    size_t i;
+    for (s = calls[e->call].slices; s->which; s++) {
+        lend_unwritten(&lent[s->which], w->len[s->which]);
+        for (i = 0; i < w->len[s->which]; i++)
+            if (w->before[s->which][i] != LENT) lent[s->which].at[i] = w->before[s->which][i];
     }
-    free(writer); free(reader); free(answer); free(group); free(data); free(rows);
 }
 
-/* What is made into slices that were never written, of items that were not. */
-static void made(void)
+static void by_example(const example *e)
 {
-    uint8_t *answer = unwritten(24), *items = unwritten(512), *track = unwritten(560), *numbers = unwritten(256), *volume = unwritten(72);
-    uint8_t *alert = unwritten(8), packs[8], fields[37] = { 0 };
-    memset(packs, 7, sizeof packs);
-    fields[3] = 0x10;
-    check(dds_subdata_make(12, 80, packs, 8, items, 512, track, 560, numbers, 256, answer, 24) == 0, "dds_subdata_make", "accepted");
-    check(dds_volume_make(fields, 37, volume, 72, answer, 24) == 0, "dds_volume_make", "accepted");
-    check(dds_alert_make(1, 2, alert, 8, answer, 24) == 0, "dds_alert_make", "accepted");
-    free(answer); free(items); free(track); free(numbers); free(volume); free(alert);
+    const uint32_t *n = e->numbers, *wrong = e->wrong;
+    const lent_slice *s;
+    worked w = work_out(e);
+    span lent[SLICES] = { { 0, 0 } };
+    size_t i;
+    lend_business(e, &w, lent);
+    if (e->refusal) returns(e->refusal, lent, e->call, wrong[0], wrong[1], wrong[2]);
+    returns(get(w.after[ANSWER]), lent, e->call, n[0], n[1], n[2]);
+    for (s = calls[e->call].slices; s->which; s++)
+        for (i = 0; i < w.len[s->which]; i++)
+            if (w.after[s->which][i] != LENT) check(lent[s->which].at[i] == w.after[s->which][i], calls[e->call].name, "bytes");
+    free_all(lent);
+    forget(&w);
+}
+
+/* ---- Whole runs */
+
+/* where the last call of the writing closed a group, it is read; then the writing has a group and the reading rows anew */
+static int read_closed(span *writing, span *reading)
+{
+    const uint8_t *answer = writing[ANSWER].at;
+    uint32_t number = get(answer + DDS_ANSWER_NUMBER), entries = get(answer + DDS_ANSWER_ENTRIES);
+    if (get(answer + DDS_ANSWER_OUTCOME) != DDS_OUTCOME_CLOSED) return 0;
+    free(reading[GROUP].at);
+    reading[GROUP] = writing[GROUP];
+    writing[GROUP].at = unwritten(writing[GROUP].len);
+    lend_unwritten(&reading[ROWS], DDS_ROW_LEN * (size_t)entries);
+    returns(DDS_REFUSED_NUMBER, reading, READ, number + 1, entries, 0);
+    returns(0, reading, READ, number, entries, 0);
+    return 1;
+}
+
+/* records, separators and an end over groups of this size, written and read back */
+static void run_of(uint32_t size)
+{
+    span writing[SLICES] = { { 0, 0 } }, reading[SLICES] = { { 0, 0 } };
+    uint32_t k;
+    int groups = 0;
+    lend_unwritten(&writing[STATE], DDS_WRITER_LEN);
+    lend_unwritten(&reading[STATE], DDS_READER_LEN);
+    lend_unwritten(&writing[GROUP], size);
+    returns(0, writing, WRITER_START, size, 1, 0);
+    returns(0, reading, READER_START, size, 1, 0);
+    for (k = 0; k < 8; k++) {
+        int inside = get(writing[STATE].at + DDS_STATE_PHASE) == DDS_PHASE_INSIDE;
+        lend_unwritten(&writing[DATA], inside ? get(writing[STATE].at + DDS_STATE_REST) : k < 3 ? 3 * size - 100 : 5);
+        returns(0, writing, RECORD, k == 6, 0, 0);
+        groups += read_closed(writing, reading);
+        if (get(writing[STATE].at + DDS_STATE_PHASE) == DDS_PHASE_INSIDE) continue;
+        returns(0, writing, SEPARATOR, k % 2, 0, 0);
+        groups += read_closed(writing, reading);
+    }
+    returns(0, writing, END, 0, 0, 0);
+    groups += read_closed(writing, reading);
+    check(groups >= 3, "groups", "three or more are closed");
+    free_all(writing);
+    free_all(reading);
 }
 
 int main(void)
 {
-    group_of(64);
-    group_of(4096);
-    group_of(DDS_SIZE_STANDARD);
-    made();
+    size_t i;
+    for (i = 0; i < sizeof examples / sizeof *examples; i++) by_example(&examples[i]);
+    run_of(64);
+    run_of(4096);
+    run_of(DDS_SIZE_STANDARD);
     return finish("undefined");
 }
