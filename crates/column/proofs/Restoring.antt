@@ -6,7 +6,7 @@ use native.Mathlib.Decide.{ℕ-discrete}
 use native.Mathlib.Omega.{arith}
 use Rattle.field.specs.Field.{_⊕_, times, power}
 use Rattle.field.specs.Tables.{powerAt}
-use Rattle.column.specs.Column.{rowCount, lastRow, total, firstSum, secondSum, Lawful, withRow, restoredOne, apart, lacking, restoredTwo}
+use Rattle.column.specs.Column.{rowCount, lastRow, total, firstSum, secondSum, Lawful, withRow, without, restoredOne, apart, lacking, restoredTwo}
 use Rattle.column.specs.Alike.{SameBut, SameButTwo, ColumnBytes}
 use Rattle.field.proofs.Adding.{⊕-zero, ⊕-comm, ⊕-self, ⊕-assoc, ⊕-back, ⊕-undo, ⊕-equal, ⊕-byte, times-⊕}
 use Rattle.field.proofs.TableLaws.{powerAt-is, power-logarithm, times-byte}
@@ -46,17 +46,42 @@ drops a b e = sym (⊕-zero a) ∙ ap (λ (x : ℕ). a ⊕ x) (sym e)
 pub unchanged : (a b : ℕ) → a ⊕ b ≡ b → a ≡ 0
 unchanged a b e = sym (⊕-undo a b) ∙ ap (λ (x : ℕ). x ⊕ b) e ∙ ⊕-self b
 
+-- Nothing added.
+nothing-and : (a x : ℕ) → a ≡ 0 → a ⊕ x ≡ x
+nothing-and a x e = ap (λ (y : ℕ). y ⊕ x) e ∙ ⊕-comm 0 x ∙ ⊕-zero x
+
+-- A column without a row: 0 there, and the same elsewhere.
+without-here : (j : ℕ) (col : ℕ → ℕ) → without j col j ≡ 0
+unfolding without
+without-here j col = withRow-same col j 0
+
+without-else : (j : ℕ) (col : ℕ → ℕ) (i : ℕ) → (i ≡ j → ⊥) → without j col i ≡ col i
+unfolding without
+without-else j col i d = withRow-other col j 0 i d
+
+without-bytes : (j : ℕ) (col : ℕ → ℕ) → ColumnBytes col → ColumnBytes (without j col)
+without-bytes j col b i l = go (ℕ-discrete i j)
+  where
+    go : Dec (i ≡ j) → without j col i < 256
+    go (yes e) = let z : without j col i ≡ 0 = ap (without j col) e ∙ without-here j col in omega arith
+    go (no d) = subst (λ (x : ℕ). x < 256) (sym (without-else j col i d)) (b i l)
+
 -- One row restored: whatever it held, it is as written if the others are.
 pub restored-one : (j : ℕ) (col w : ℕ → ℕ) → j < rowCount → Lawful w → SameBut j col w → (i : ℕ) → i < rowCount → restoredOne j col i ≡ w i
 unfolding restoredOne
 restored-one j col w l law h i li = go (ℕ-discrete i j)
   where
-    sum : firstSum col ≡ col j ⊕ w j
-    sum = drops (firstSum col) (firstSum w) (law .first) ∙ one-first col w j l h
+    others : ℕ → ℕ
+    others = without j col
 
-    go : Dec (i ≡ j) → withRow col j (col j ⊕ firstSum col) i ≡ w i
-    go (yes e) = ap (withRow col j (col j ⊕ firstSum col)) e ∙ withRow-same col j (col j ⊕ firstSum col) ∙ ap (λ (x : ℕ). col j ⊕ x) sum ∙ ⊕-back (col j) (w j) ∙ ap w (sym e)
-    go (no d) = withRow-other col j (col j ⊕ firstSum col) i d ∙ h i li d
+    sum : firstSum others ≡ w j
+    sum =
+        drops (firstSum others) (firstSum w) (law .first) ∙ one-first others w j l (λ k lk d. without-else j col k d ∙ h k lk d)
+        ∙ nothing-and (others j) (w j) (without-here j col)
+
+    go : Dec (i ≡ j) → withRow others j (firstSum others) i ≡ w i
+    go (yes e) = ap (withRow others j (firstSum others)) e ∙ withRow-same others j (firstSum others) ∙ sum ∙ ap w (sym e)
+    go (no d) = withRow-other others j (firstSum others) i d ∙ without-else j col i d ∙ h i li d
 
 -- Two rows.
 module _ (j k : ℕ) (lj : j < rowCount) (lk : k < rowCount) (d : j ≡ k → ⊥) where
@@ -116,20 +141,21 @@ module _ (j k : ℕ) (lj : j < rowCount) (lk : k < rowCount) (d : j ≡ k → �
     change : ℕ
     change = lacking j k (firstSum col) (secondSum col)
 
-    two-at-j : restoredTwo j k col j ≡ col j ⊕ change
-    unfolding restoredTwo change
+    -- Any column, with what it lacks added to its rows j and k.
+    abbrev completed : ℕ → ℕ
+    completed = withRow (withRow col j (col j ⊕ change)) k (col k ⊕ (firstSum col ⊕ change))
+
+    two-at-j : completed j ≡ col j ⊕ change
     two-at-j = withRow-other (withRow col j (col j ⊕ change)) k (col k ⊕ (firstSum col ⊕ change)) j d ∙ withRow-same col j (col j ⊕ change)
 
-    two-at-k : restoredTwo j k col k ≡ col k ⊕ (firstSum col ⊕ change)
-    unfolding restoredTwo change
+    two-at-k : completed k ≡ col k ⊕ (firstSum col ⊕ change)
     two-at-k = withRow-same (withRow col j (col j ⊕ change)) k (col k ⊕ (firstSum col ⊕ change))
 
-    pub two-else : (i : ℕ) → (i ≡ j → ⊥) → (i ≡ k → ⊥) → restoredTwo j k col i ≡ col i
-    unfolding restoredTwo change
-    two-else i p q = withRow-other (withRow col j (col j ⊕ change)) k (col k ⊕ (firstSum col ⊕ change)) i q ∙ withRow-other col j (col j ⊕ change) i p
+    completed-else : (i : ℕ) → (i ≡ j → ⊥) → (i ≡ k → ⊥) → completed i ≡ col i
+    completed-else i p q = withRow-other (withRow col j (col j ⊕ change)) k (col k ⊕ (firstSum col ⊕ change)) i q ∙ withRow-other col j (col j ⊕ change) i p
 
-    two-same : SameButTwo j k (restoredTwo j k col) col
-    two-same i l p q = two-else i p q
+    two-same : SameButTwo j k completed col
+    two-same i l p q = completed-else i p q
 
     added : (a b x : ℕ) → a ≡ b ⊕ x → a ⊕ b ≡ x
     added a b x e = ap (λ (y : ℕ). y ⊕ b) (e ∙ ⊕-comm b x) ∙ ⊕-undo x b
@@ -142,12 +168,12 @@ module _ (j k : ℕ) (lj : j < rowCount) (lk : k < rowCount) (d : j ≡ k → �
     unfolding change lacking
     change-is b = times-forth (apart j k) _ below-255 (⊕-byte _ _ (second-byte col b) (times-byte (lastRow - k) _ (first-byte col b)))
 
-    -- Restoring two rows gives a lawful column, whatever the column held.
-    pub lawful-two : ColumnBytes col → Lawful (restoredTwo j k col)
-    lawful-two b = record { first = unchanged (firstSum r) s first; second = unchanged (secondSum r) t second }
+    -- It is lawful, whatever the column held.
+    lawful-completed : ColumnBytes col → Lawful completed
+    lawful-completed b = record { first = unchanged (firstSum r) s first; second = unchanged (secondSum r) t second }
       where
         r : ℕ → ℕ
-        r = restoredTwo j k col
+        r = completed
 
         s : ℕ
         s = firstSum col
@@ -173,15 +199,45 @@ module _ (j k : ℕ) (lj : j < rowCount) (lk : k < rowCount) (d : j ≡ k → �
             ∙ ap (λ (x : ℕ). x ⊕ times (lastRow - k) s) (joint change (change-byte b) ∙ change-is b)
             ∙ ⊕-undo t (times (lastRow - k) s)
 
-    pub bytes-two : ColumnBytes col → ColumnBytes (restoredTwo j k col)
-    bytes-two b i l = go (ℕ-discrete i j) (ℕ-discrete i k)
+    bytes-completed : ColumnBytes col → ColumnBytes completed
+    bytes-completed b i l = go (ℕ-discrete i j) (ℕ-discrete i k)
       where
-        go : Dec (i ≡ j) → Dec (i ≡ k) → restoredTwo j k col i < 256
-        go (yes e) q = subst (λ (x : ℕ). x < 256) (sym (ap (restoredTwo j k col) e ∙ two-at-j)) (⊕-byte (col j) change (b j lj) (change-byte b))
+        go : Dec (i ≡ j) → Dec (i ≡ k) → completed i < 256
+        go (yes e) q = subst (λ (x : ℕ). x < 256) (sym (ap completed e ∙ two-at-j)) (⊕-byte (col j) change (b j lj) (change-byte b))
         go (no p) (yes e) =
-            subst (λ (x : ℕ). x < 256) (sym (ap (restoredTwo j k col) e ∙ two-at-k))
+            subst (λ (x : ℕ). x < 256) (sym (ap completed e ∙ two-at-k))
             (⊕-byte (col k) (firstSum col ⊕ change) (b k lk) (⊕-byte (firstSum col) change (first-byte col b) (change-byte b)))
-        go (no p) (no q) = subst (λ (x : ℕ). x < 256) (sym (two-else i p q)) (b i l)
+        go (no p) (no q) = subst (λ (x : ℕ). x < 256) (sym (completed-else i p q)) (b i l)
+
+  -- Restoring two rows completes the column without them.
+  module _ (col : ℕ → ℕ) where
+    abbrev others : ℕ → ℕ
+    others = without k (without j col)
+
+    others-bytes : ColumnBytes col → ColumnBytes others
+    others-bytes b = without-bytes k (without j col) (without-bytes j col b)
+
+    at-j-none : others j ≡ 0
+    at-j-none = without-else k (without j col) j d ∙ without-here j col
+
+    others-else : (i : ℕ) → (i ≡ j → ⊥) → (i ≡ k → ⊥) → others i ≡ col i
+    others-else i p q = without-else k (without j col) i q ∙ without-else j col i p
+
+    two-is : restoredTwo j k col ≡ completed others
+    unfolding restoredTwo change
+    two-is =
+        ap₂ (λ (x y : ℕ). withRow (withRow others j x) k y) (sym (nothing-and (others j) (change others) at-j-none))
+        (sym (nothing-and (others k) (firstSum others ⊕ change others) (without-here k (without j col))))
+
+    pub two-else : (i : ℕ) → (i ≡ j → ⊥) → (i ≡ k → ⊥) → restoredTwo j k col i ≡ col i
+    two-else i p q = ap (λ (f : ℕ → ℕ). f i) two-is ∙ completed-else others i p q ∙ others-else i p q
+
+    -- That gives a lawful column, whatever the column held.
+    pub lawful-two : ColumnBytes col → Lawful (restoredTwo j k col)
+    lawful-two b = subst Lawful (sym two-is) (lawful-completed others (others-bytes b))
+
+    pub bytes-two : ColumnBytes col → ColumnBytes (restoredTwo j k col)
+    bytes-two b = subst ColumnBytes (sym two-is) (bytes-completed others (others-bytes b))
 
     -- The two rows are as written, whatever they held, if the others are.
     pub restored-two : (w : ℕ → ℕ) → ColumnBytes col → ColumnBytes w → Lawful w → SameButTwo j k col w

@@ -50,9 +50,13 @@ lawful col = eqb (firstSum col) 0 && eqb (secondSum col) 0
 unfoldable pub withRow : (col : Column) (j byte : ℕ) → Column
 withRow col j byte i = cond (eqb i j) byte (col i)
 
--- "restore any one .. named row": the 46 bytes then add to zero.
+-- A column whose row j is taken out: what it held is not looked at.
+unfoldable pub without : (j : ℕ) → Column → Column
+without j col = withRow col j 0
+
+-- "restore any one .. named row": it is what the others add to, so that the 46 bytes add to zero.
 unfoldable pub restoredOne : ℕ → Column → Column
-restoredOne j col = withRow col j (col j ⊕ firstSum col)
+restoredOne j col = withRow (without j col) j (firstSum (without j col))
 
 -- The k of which α^k is α^(45 − i) + α^(45 − j).
 unfoldable pub apart : ℕ → ℕ → ℕ
@@ -62,11 +66,12 @@ apart i j = logarithmAt (powerAt (lastRow - i) ⊕ powerAt (lastRow - j))
 unfoldable pub lacking : (i j s t : ℕ) → ℕ
 lacking i j s t = times (255 - apart i j) (t ⊕ times (lastRow - j) s)
 
--- "restore any .. two named rows": row j lacks what is left of the first sum.
+-- "restore any .. two named rows": by the sums of the others; row j is what row i leaves of the first.
 unfoldable pub restoredTwo : ℕ → ℕ → Column → Column
 restoredTwo i j col =
-    let x = lacking i j (firstSum col) (secondSum col) in
-    withRow (withRow col i (col i ⊕ x)) j (col j ⊕ (firstSum col ⊕ x))
+    let others = without j (without i col) in
+    let x = lacking i j (firstSum others) (secondSum others) in
+    withRow (withRow others i x) j (firstSum others ⊕ x)
 
 -- What stands for a row where none is wrong, and where no single change mends: no row has these numbers.
 abbrev pub noneWrong : ℕ

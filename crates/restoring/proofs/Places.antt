@@ -11,7 +11,7 @@ use lib.Seq.{getD-set-same, getD-set-other, ext-getD}
 use Rattle.numbers.specs.Numbers.{listed}
 use Rattle.numbers.proofs.Computed.{listed-at}
 use Rattle.field.specs.Field.{_⊕_}
-use Rattle.column.specs.Column.{rowCount, Column, column, firstSum, secondSum, withRow, restoredOne, lacking, restoredTwo, noneWrong, wrongRow, mended}
+use Rattle.column.specs.Column.{rowCount, Column, column, firstSum, secondSum, withRow, without, restoredOne, lacking, restoredTwo, noneWrong, wrongRow, mended}
 use Rattle.restoring.specs.Rows.{eachColumn}
 use Rattle.restoring.specs.Turns.{changed, Turn}
 use Rattle.field.proofs.Adding.{⊕-zero}
@@ -80,49 +80,44 @@ pub stored : (rows : List ℕ) (n i c x p : ℕ) → p ≡ i * n + c → set row
 unfolding changed column _⊕_
 stored rows n i c x p e = rw e
 
--- A turn each.
+-- A byte put is a turn.
+pub turn-put : (rows : List ℕ) (n c : ℕ) → length rows ≡ rowCount * n → c < n → (rows′ : List ℕ) (i v : ℕ) → i < rowCount → rows′ ≡ set rows (i * n + c) v →
+    Turn (λ (col : Column). withRow col i v) n c rows rows′
+turn-put rows n c size lc rows′ i v l h =
+    record {
+      size = ap length h ∙ length-set rows (i * n + c) v;
+      here = ap (λ (x : List ℕ). column x n c) h ∙ column-set rows n c size lc i v l;
+      other = λ d ld p. ap (λ (x : List ℕ). column x n d) h ∙ column-other rows n c size lc i v d ld p;
+    }
+
+-- Two turns, one after the other.
+pub turn-then : {f g : Column → Column} {n c : ℕ} {rows rows₁ rows₂ : List ℕ} → Turn f n c rows rows₁ → Turn g n c rows₁ rows₂ → Turn (λ (col : Column). g (f col)) n c rows rows₂
+turn-then {g = g} t u =
+    record { size = u .size ∙ t .size; here = u .here ∙ ap g (t .here); other = λ d ld p. u .other d ld p ∙ t .other d ld p }
+
+-- A turn each. Rows are restored by the sums of the others: the named ones are taken out before the sums are made.
 module _ (rows : List ℕ) (n c : ℕ) (size : length rows ≡ rowCount * n) (lc : c < n) where
-  pub turn-one : (rows′ : List ℕ) (i s : ℕ) → i < rowCount → s ≡ firstSum (column rows n c) → rows′ ≡ changed rows n i c s → Turn (restoredOne i) n c rows rows′
-  unfolding restoredOne
-  turn-one rows′ i s l e h =
-      record {
-        size = ap length h ∙ changed-size rows n i c s;
-        here = ap (λ (x : List ℕ). column x n c) h ∙ column-changed rows n c size lc i s l ∙ ap (λ (x : ℕ). withRow (column rows n c) i (column rows n c i ⊕ x)) e;
-        other = λ d ld p. ap (λ (x : List ℕ). column x n d) h ∙ changed-other rows n c size lc i s d ld p;
-      }
+  pub turn-one : (rows₁ rows₂ : List ℕ) (i s : ℕ) → i < rowCount → rows₁ ≡ set rows (i * n + c) 0 → s ≡ firstSum (column rows₁ n c) → rows₂ ≡ set rows₁ (i * n + c) s →
+      Turn (restoredOne i) n c rows rows₂
+  unfolding restoredOne without
+  turn-one rows₁ rows₂ i s l h₁ e h₂ =
+      let t = turn-put rows n c size lc rows₁ i 0 l h₁ in
+      let u = turn-then t (turn-put rows₁ n c (t .size ∙ size) lc rows₂ i s l h₂) in
+      record { size = u .size; here = u .here ∙ ap (withRow (withRow (column rows n c) i 0) i) (e ∙ ap firstSum (t .here)); other = u .other }
 
-  pub turn-two : (rows₁ rows₂ : List ℕ) (i j x y : ℕ) → i < rowCount → j < rowCount → (i ≡ j → ⊥)
-      → x ≡ lacking i j (firstSum (column rows n c)) (secondSum (column rows n c)) → y ≡ firstSum (column rows n c) ⊕ x
-      → rows₁ ≡ changed rows n i c x → rows₂ ≡ changed rows₁ n j c y → Turn (restoredTwo i j) n c rows rows₂
-  unfolding restoredTwo
-  turn-two rows₁ rows₂ i j x y li lj d ex ey h₁ h₂ =
-      record {
-        size = ap length h₂ ∙ changed-size rows₁ n j c y ∙ size₁;
-        here = ap (λ (u : List ℕ). column u n c) h₂ ∙ column-changed rows₁ n c (size₁ ∙ size) lc j y lj ∙ both;
-        other = λ e le p.
-            ap (λ (u : List ℕ). column u n e) h₂ ∙ changed-other rows₁ n c (size₁ ∙ size) lc j y e le p
-            ∙ ap (λ (u : List ℕ). column u n e) h₁ ∙ changed-other rows n c size lc i x e le p;
-      }
-    where
-      col : ℕ → ℕ
-      col = column rows n c
-
-      size₁ : length rows₁ ≡ length rows
-      size₁ = ap length h₁ ∙ changed-size rows n i c x
-
-      one : column rows₁ n c ≡ withRow col i (col i ⊕ x)
-      one = ap (λ (u : List ℕ). column u n c) h₁ ∙ column-changed rows n c size lc i x li
-
-      at-j : column rows₁ n c j ≡ col j
-      at-j = ap (λ (f : ℕ → ℕ). f j) one ∙ withRow-other col i (col i ⊕ x) j (λ e. d (sym e))
-
-      t : ℕ
-      t = lacking i j (firstSum col) (secondSum col)
-
-      both : withRow (column rows₁ n c) j (column rows₁ n c j ⊕ y) ≡ withRow (withRow col i (col i ⊕ t)) j (col j ⊕ (firstSum col ⊕ t))
-      both =
-          ap₂ (λ (f : ℕ → ℕ) (v : ℕ). withRow f j v) (one ∙ ap (λ (z : ℕ). withRow col i (col i ⊕ z)) ex)
-          (ap₂ _⊕_ at-j (ey ∙ ap (λ (z : ℕ). firstSum col ⊕ z) ex))
+  pub turn-two : (rows₁ rows₂ rows₃ rows₄ : List ℕ) (i j x y : ℕ) → i < rowCount → j < rowCount → rows₁ ≡ set rows (i * n + c) 0 → rows₂ ≡ set rows₁ (j * n + c) 0 →
+      x ≡ lacking i j (firstSum (column rows₂ n c)) (secondSum (column rows₂ n c)) → y ≡ firstSum (column rows₂ n c) ⊕ x →
+      rows₃ ≡ set rows₂ (i * n + c) x → rows₄ ≡ set rows₃ (j * n + c) y → Turn (restoredTwo i j) n c rows rows₄
+  unfolding restoredTwo without
+  turn-two rows₁ rows₂ rows₃ rows₄ i j x y li lj h₁ h₂ ex ey h₃ h₄ =
+      let t₁ = turn-put rows n c size lc rows₁ i 0 li h₁ in
+      let t₂ = turn-then t₁ (turn-put rows₁ n c (t₁ .size ∙ size) lc rows₂ j 0 lj h₂) in
+      let t₃ = turn-then t₂ (turn-put rows₂ n c (t₂ .size ∙ size) lc rows₃ i x li h₃) in
+      let t₄ = turn-then t₃ (turn-put rows₃ n c (t₃ .size ∙ size) lc rows₄ j y lj h₄) in
+      let others : Column = withRow (withRow (column rows n c) i 0) j 0 in
+      let x-is : x ≡ lacking i j (firstSum others) (secondSum others) = ex ∙ ap (λ (col : Column). lacking i j (firstSum col) (secondSum col)) (t₂ .here) in
+      let y-is : y ≡ firstSum others ⊕ lacking i j (firstSum others) (secondSum others) = ey ∙ ap₂ _⊕_ (ap firstSum (t₂ .here)) x-is in
+      record { size = t₄ .size; here = t₄ .here ∙ ap₂ (λ (v w : ℕ). withRow (withRow others i v) j w) x-is y-is; other = t₄ .other }
 
   pub turn-mend : (rows′ : List ℕ) (r s : ℕ) → r < rowCount → s ≡ firstSum (column rows n c)
       → r ≡ wrongRow (firstSum (column rows n c)) (secondSum (column rows n c)) → rows′ ≡ changed rows n r c s → Turn mended n c rows rows′

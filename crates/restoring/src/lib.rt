@@ -1,14 +1,23 @@
 // The whole buffer of the third code, column by column: which column fails a rule, rows restored, columns mended. The leaves here
 // require what the calls above have tested: 46 rows of length n, and rows that are there.
 ghost use mathlib.Core.Path.{_≡_};
-ghost use Prim.Native.Nat.{_*_, _≤_, _<_};
-ghost use lib.ListN.{length};
+ghost use Prim.Native.Nat.{_+_, _*_, _≤_, _<_};
+ghost use lib.ListN.{length, set};
 ghost use Rattle.field.specs.Tables.{powerTable, logarithmTable};
 ghost use Rattle.column.specs.Column.{rowCount, column, lawful, restoredOne, apart, restoredTwo, noneMends, wrongIn, mended, mendable};
 ghost use Rattle.restoring.specs.Rows.{eachColumn, firstFailing};
 ghost use Rattle.restoring.specs.Turns.{changed, Turn};
 use column::Column;
 use field::tables;
+
+// x put in the place of the byte of row i and column c, which is not looked at.
+fn put(rows: &mut [u8], n: usize, i: usize, c: usize, x: u8)
+    requires { ⌜ (i < rowCount) × (c < n) × (length (now rows) ≡ rowCount * n) ⌝ }
+    ensures { λ _. ⌜ now (rows .exit) ≡ set (now (rows .entry)) (i * n + c) x ⌝ }
+{
+    let at = column::place(n, i, c);
+    rows[at] = x;
+}
 
 // x added to the byte of row i and column c.
 fn change(rows: &mut [u8], n: usize, i: usize, c: usize, x: u8)
@@ -24,8 +33,9 @@ fn restore_in(rows: &mut [u8], n: usize, c: usize, i: usize)
     requires { ⌜ (i < rowCount) × (c < n) × (length (now rows) ≡ rowCount * n) ⌝ }
     ensures { λ _. ⌜ Turn (restoredOne i) n c (now (rows .entry)) (now (rows .exit)) ⌝ }
 {
+    put(rows, n, i, c, 0);
     let s = column::sums_of(rows, n, c);
-    change(rows, n, i, c, s.first);
+    put(rows, n, i, c, s.first);
 }
 
 // Rows i and j of column c restored, where the sum of their weights is α^k.
@@ -42,10 +52,12 @@ fn restore_both_in(
     requires { ⌜ (now powers ≡ powerTable) × (now logarithms ≡ logarithmTable) × (i < rowCount) × (j < rowCount) × (i ≡ j → ⊥) × (k ≡ apart i j) × (k < 255) × (c < n) × (length (now rows) ≡ rowCount * n) ⌝ }
     ensures { λ _. ⌜ Turn (restoredTwo i j) n c (now (rows .entry)) (now (rows .exit)) ⌝ }
 {
+    put(rows, n, i, c, 0);
+    put(rows, n, j, c, 0);
     let s = column::sums_of(rows, n, c);
     let x = column::lacking_in(powers, logarithms, k, i, j, s);
-    change(rows, n, i, c, x);
-    change(rows, n, j, c, s.first ^ x);
+    put(rows, n, i, c, x);
+    put(rows, n, j, c, s.first ^ x);
 }
 
 // Column c mended.
