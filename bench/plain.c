@@ -111,30 +111,33 @@ static uint32_t judge(const uint8_t *group, uint32_t size, uint32_t n, uint32_t 
         if (!(allowed[where] >> kind & 1) || (kind == SKIP) != (k == n)) return 10;
         switch (kind) {
         case SEPARATOR:
-            if (count > 1) return 11;
+            if (count > 1) return 20;
             where = FREE;
             continue;
         case TOTAL:
-            if (count != sum) return 11;
+            if (count != sum) return 22;
             sum = 0;
             where = FREE;
             continue;
         case ENTIRE:
-            if (count == 0) return 11;
+            if (count == 0) return 19;
             where = FREE;
             break;
         case START:
-            if (count == 0 || count == LONGEST) return 11;
+            if (count == 0) return 19;
+            if (count == LONGEST) return 21;
             sum = count;
             where = PARTED;
             break;
         case MIDDLE:
-            if (count == 0 || sum + count >= LONGEST) return 11;
+            if (count == 0) return 19;
+            if (sum + count >= LONGEST) return 21;
             sum += count;
             where = PARTED;
             break;
         case LAST:
-            if (count == 0 || sum + count > LONGEST) return 11;
+            if (count == 0) return 19;
+            if (sum + count > LONGEST) return 21;
             sum += count;
             where = ENDED;
             break;

@@ -228,7 +228,7 @@ static void tables_read_alike(void)
     refused(one, "Flag 43 for a start, which some take for 42", DDS_REFUSED_FLAG, 1);
     for (g = 0; g < 10; g++) must(read_group(&r, &library.slots[g]) == DDS_ACCEPTED, "groups 1 to 10 are accepted");
     entry(eleven, 2)[3] -= 1;
-    refused(eleven, "A total one too small, which some pass over", DDS_REFUSED_COUNT, 2);
+    refused(eleven, "A total one too small, which some pass over", DDS_REFUSED_TOTAL_DIFFERS, 2);
     *eleven = library.slots[10];
     memcpy(was, entry(eleven, 3), 4);
     memcpy(entry(eleven, 3), entry(eleven, 4), 4);

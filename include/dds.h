@@ -30,13 +30,13 @@ extern "C" {
 
 /* ---- Version
 
-   How many change requests have landed, then the last of them, as one decimal number: 3, and 2026-11. Each landing makes it
+   How many change requests have landed, then the last of them, as one decimal number: 4, and 2026-02. Each landing makes it
    greater, so it compares, also where a request of a lower number lands later. Header and archive of one build belong together.
 
    States are not kept across versions: in another a state may have other fields or another length. A run is ended before the
    change, or started anew after it. */
 
-#define DDS_VERSION 3202611u
+#define DDS_VERSION 4202602u
 
 /* ---- Sizes */
 
@@ -94,7 +94,7 @@ extern "C" {
 /* ---- Fields of the answer */
 
 #define DDS_ANSWER_REFUSAL 0u          /* the number the call returns too */
-#define DDS_ANSWER_PLACE   4u          /* refusals 8 to 13: the entry, from 1; 31 to 34: the block; 43: the column; else 0 */
+#define DDS_ANSWER_PLACE   4u          /* refusals 8 to 13 and 19 to 22: the entry, from 1; 31 to 34: the block; 43: the column */
 #define DDS_ANSWER_OUTCOME 8u          /* DDS_OUTCOME_.. */
 #define DDS_ANSWER_NUMBER  12u         /* at a close: the closed group's number */
 #define DDS_ANSWER_ENTRIES 16u         /* at a close: its entry count, an owed total and the skip counted */
@@ -203,7 +203,6 @@ extern "C" {
 #define DDS_REFUSED_FLAG           8u  /* unknown flag: read, at an entry */
 #define DDS_REFUSED_B4             9u  /* b4 dropped: read, at an entry */
 #define DDS_REFUSED_FOLLOW        10u  /* entry not allowed here: read, at an entry */
-#define DDS_REFUSED_COUNT         11u  /* count breaks its rule: read, at an entry */
 #define DDS_REFUSED_ROOM          12u  /* data would pass L - 32 - 4n: read, at an entry */
 #define DDS_REFUSED_SKIP          13u  /* skip count wrong: read, at an entry */
 #define DDS_REFUSED_NO_NUMBER     14u  /* no group number remains: record, separator, end */
@@ -211,6 +210,10 @@ extern "C" {
 #define DDS_REFUSED_REST          16u  /* offer isn't the rest: record */
 #define DDS_REFUSED_OPEN          17u  /* a record is open: separator, end */
 #define DDS_REFUSED_SEPARATOR     18u  /* separator value over 1: separator */
+#define DDS_REFUSED_ZERO_PART     19u  /* a part or a record of 0 bytes: read, at an entry */
+#define DDS_REFUSED_ABOVE_ONE     20u  /* a separator above 1: read, at an entry */
+#define DDS_REFUSED_TOO_LONG      21u  /* parts that add up to too long a record: read, at an entry */
+#define DDS_REFUSED_TOTAL_DIFFERS 22u  /* a total that is not the sum of its parts: read, at an entry */
 #define DDS_REFUSED_LENGTH        30u  /* a buffer's length is not its own: make, read of a track */
 #define DDS_REFUSED_PARITY        31u  /* parity is not SW1 exclusive or SW2: read of a track, at a block */
 #define DDS_REFUSED_SW1           32u  /* Area ID not allowed: make; SW1 not this track's: read, at a block */
@@ -264,10 +267,10 @@ uint32_t dds_writer_start(uint32_t size, uint32_t first, uint8_t *state, size_t 
    Accepted: the first DDS_ROW_LEN * entries bytes of rows are filled, the bytes after them stay, and the state moves on to the
    next group. The answer is zeros. Rows of kinds 3 to 6 say where bytes of a record stand: `count` bytes of the group from
    `offset` on.
-   Refused: state and rows stay as they were; the answer says the number and, for 8 to 13, the entry. The same state may then be
-   tried on another group.
-   Refusals in order: 1, 4, 5, 6, 7; then entry by entry from 1, and at one entry 8 to 13. The first entry that breaks a rule
-   is the one told.
+   Refused: state and rows stay as they were; the answer says the number and, for 8 to 13 and 19 to 22, the entry. The same
+   state may then be tried on another group.
+   Refusals in order: 1, 4, 5, 6, 7; then entry by entry from 1, and at one entry 8, 9, 10, one of 19 to 22, 12, 13. The first
+   entry that breaks a rule is the one told.
 
    At the run's end look at the phase. DDS_PHASE_FREE: every record is finished. DDS_PHASE_INSIDE or DDS_PHASE_OWED: the run ends
    in a record that is broken off, of which DDS_STATE_SUM bytes were read. No call says so by itself. */

@@ -192,7 +192,7 @@ static void p10_to_p12(void)
     set(&s.of[GROUP], "19 00*19 80 00 00 3F 01 00 00 18 60 00 00 01 00*32");
     relend(&s.of[ROWS], 36);
     reads(&s, 2, 3);
-    refused(&s, "P12", 11, 2);
+    refused(&s, "P12", 22, 2);
     leave(&s);
 }
 

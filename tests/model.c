@@ -205,24 +205,23 @@ uint32_t MODEL(writer_start)(uint32_t size, uint32_t first, uint8_t *state, size
 
 /* ---- Reading */
 
-/* rule 11 */
-static int count_kept(num sum, num kind, num count)
+/* document 02, request 2026-02: which count is wrong, 19 zero part, 20 separator above 1, 21 record too long, 22 total differs; 0 if
+   none. Parts after a start or middle add to at most 16,777,214, after a last to at most 16,777,215. */
+static num count_refusal(num sum, num kind, num count)
 {
-    switch (kind) {
-    case TOTAL: return count == sum;
-    case SEPARATOR: return count <= 1;
-    case MIDDLE: return count >= 1 && sum + count <= LONGEST_RECORD - 1;
-    case START: return count >= 1 && count <= LONGEST_RECORD - 1;
-    case LAST: return count >= 1 && sum + count <= LONGEST_RECORD;
-    case ENTIRE: return count >= 1 && count <= LONGEST_RECORD;
-    }
-    return 1;
+    if (kind == TOTAL && count != sum) return 22;
+    if (kind == SEPARATOR && count > 1) return 20;
+    if (has_data(kind) && count == 0) return 19;
+    if (kind == START && count >= LONGEST_RECORD) return 21;
+    if (kind == MIDDLE && sum + count >= LONGEST_RECORD) return 21;
+    if (kind == LAST && sum + count > LONGEST_RECORD) return 21;
+    return 0;
 }
 
 /* a scan over entries 1 to n: where it stands before entry k */
 typedef struct { num where, sum, data, b4; } standing;
 
-/* the first rule that entry k breaks, 8 to 13, or 0 */
+/* the first rule that entry k breaks: 8, 9, 10, 19 to 22, 12 or 13; 0 if none */
 static num entry_refusal(const standing *s, const uint8_t *entry, num size, num n, num k)
 {
     num kind = kind_of_flag(entry[0]), count = entry_count(entry);
@@ -230,7 +229,7 @@ static num entry_refusal(const standing *s, const uint8_t *entry, num size, num 
     if (s->b4 && !b4_of_flag(entry[0])) return 9;
     if (!may_follow(s->where, kind)) return 10;
     if ((kind == SKIP) != (k == n)) return 10;
-    if (!count_kept(s->sum, kind, count)) return 11;
+    if (count_refusal(s->sum, kind, count)) return count_refusal(s->sum, kind, count);
     if (has_data(kind) && s->data + count > entry_offset(size, n)) return 12;
     if (kind == SKIP && count != size - s->data) return 13;
     return 0;

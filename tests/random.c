@@ -239,6 +239,6 @@ int main(int argc, char **argv)
     starts_some(&d, count / 4);
     long_records();
     leave(&d);
-    came_up(count, 10000, LIST(0, 1, 2, 3, 4, 5, 6, 7, 8, 9, 10, 11, 12, 13, 14, 15, 16, 17, 18));
+    came_up(count, 10000, LIST(0, 1, 2, 3, 4, 5, 6, 7, 8, 9, 10, 12, 13, 14, 15, 16, 17, 18, 19, 20, 21, 22));
     return finish_pairs("random");
 }

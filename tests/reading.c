@@ -77,39 +77,41 @@ static void reading_15(void)
     REFUSED("reading 15: 8 at n, not 10", 0, 0, 8, 1, 0x43000000);
     REFUSED("reading 15: 9 on a misplaced kind, not 10", 0, 0, 9, 2, 0x0F000000, 0x60000000, 0x88000040);
     REFUSED("reading 15: 9 on a misplaced skip, not 10", 0, 0, 9, 2, 0x0F000000, 0x80000000, 0x88000040);
-    REFUSED("reading 15: 9 on a wrong count, not 11", 0, 0, 9, 2, 0x0F000000, 0x07000002, 0x88000040);
+    REFUSED("reading 15: 9 on a wrong count, not 20", 0, 0, 9, 2, 0x0F000000, 0x07000002, 0x88000040);
     REFUSED("reading 15: 9 on a wrong skip, not 13", 0, 0, 9, 2, 0x0F000000, 0x80000000);
     REFUSED("reading 15: a zero last while free is 10", 0, 0, 10, 1, 0x60000000, 0x80000040);
     REFUSED("reading 15: a wrong skip before n is 10", 0, 0, 10, 1, 0x80000001, 0x80000040);
     REFUSED("reading 15: a right skip before n is 10", 0, 0, 10, 2, 0x07000000, 0x80000040, 0x80000040);
     REFUSED("reading 15: a wrong skip inside is 10", 1, 9, 10, 1, 0x80000001);
-    REFUSED("reading 15: a start of 16,777,215 is 11", 0, 0, 11, 1, 0x42FFFFFF, 0x80000040);
+    REFUSED("reading 15: a start of 16,777,215 is 21, not 12", 0, 0, 21, 1, 0x42FFFFFF, 0x80000040);
     REFUSED("reading 15: a start of 16,777,214 is 12", 0, 0, 12, 1, 0x42FFFFFE, 0x80000040);
-    REFUSED("reading 15: an over-long middle is 11, not 12", 1, 9, 11, 1, 0x40FFFFFF, 0x80000040);
-    REFUSED("reading 15: an over-long last is 11, not 12", 1, 9, 11, 1, 0x60FFFFF7, 0x80000040);
+    REFUSED("reading 15: an over-long middle is 21, not 12", 1, 9, 21, 1, 0x40FFFFFF, 0x80000040);
+    REFUSED("reading 15: an over-long last is 21, not 12", 1, 9, 21, 1, 0x60FFFFF7, 0x80000040);
     REFUSED("reading 15: a last just not over-long is 12", 1, 9, 12, 1, 0x60FFFFF6, 0x80000040);
-    REFUSED("reading 15: a total that differs is 11", 2, 9, 11, 1, 0x0100000A, 0x80000040);
-    REFUSED("reading 15: a total that differs is 11", 2, 9, 11, 1, 0x01000008, 0x80000040);
-    REFUSED("reading 15: a total of 0 is 11", 2, 9, 11, 1, 0x01000000, 0x80000040);
-    REFUSED("reading 15: a total after last", 1, 9, 11, 2, 0x60000005, 0x0100000D, 0x8000003B);
-    REFUSED("reading 15: a total of its last part only", 1, 9, 11, 2, 0x60000005, 0x01000005, 0x8000003B);
+    REFUSED("reading 15: a total that differs is 22", 2, 9, 22, 1, 0x0100000A, 0x80000040);
+    REFUSED("reading 15: a total that differs is 22", 2, 9, 22, 1, 0x01000008, 0x80000040);
+    REFUSED("reading 15: a total of 0 is 22, not 19", 2, 9, 22, 1, 0x01000000, 0x80000040);
+    REFUSED("reading 15: a total after last", 1, 9, 22, 2, 0x60000005, 0x0100000D, 0x8000003B);
+    REFUSED("reading 15: a total of its last part only", 1, 9, 22, 2, 0x60000005, 0x01000005, 0x8000003B);
 }
 
 static void reading_16(void)
 {
-    REFUSED("reading 16: a start of 0", 0, 0, 11, 1, 0x42000000, 0x80000040);
-    REFUSED("reading 16: a middle of 0", 1, 9, 11, 1, 0x40000000, 0x80000040);
-    REFUSED("reading 16: a last of 0", 1, 9, 11, 1, 0x60000000, 0x80000040);
-    REFUSED("reading 16: an entire record of 0", 0, 0, 11, 1, 0x63000000, 0x80000040);
+    REFUSED("reading 16: a start of 0", 0, 0, 19, 1, 0x42000000, 0x80000040);
+    REFUSED("reading 16: a middle of 0", 1, 9, 19, 1, 0x40000000, 0x80000040);
+    REFUSED("reading 16: a last of 0 after 16,777,214 is 19, not 21", 1, 16777214, 19, 1, 0x60000000, 0x80000040);
+    REFUSED("reading 16: a middle of 0 after 16,777,214 is 19, not 21", 1, 16777214, 19, 1, 0x40000000, 0x80000040);
+    REFUSED("reading 16: a last of 0", 1, 9, 19, 1, 0x60000000, 0x80000040);
+    REFUSED("reading 16: an entire record of 0", 0, 0, 19, 1, 0x63000000, 0x80000040);
     REFUSED("reading 16: an entire record of 16,777,215 is 12", 0, 0, 12, 1, 0x63FFFFFF, 0x80000040);
-    REFUSED("reading 16: a separator of 2", 0, 0, 11, 1, 0x07000002, 0x80000040);
-    REFUSED("reading 16: a separator of 16,777,215", 0, 0, 11, 1, 0x07FFFFFF, 0x80000040);
-    REFUSED("reading 16: a separator of 256", 0, 0, 11, 1, 0x07000100, 0x80000040);
-    REFUSED("reading 16: a separator of 65,536", 0, 0, 11, 1, 0x07010000, 0x80000040);
-    REFUSED("reading 16: a middle to 16,777,215", 1, 16777214, 11, 1, 0x40000001, 0x8000003F);
+    REFUSED("reading 16: a separator of 2", 0, 0, 20, 1, 0x07000002, 0x80000040);
+    REFUSED("reading 16: a separator of 16,777,215", 0, 0, 20, 1, 0x07FFFFFF, 0x80000040);
+    REFUSED("reading 16: a separator of 256", 0, 0, 20, 1, 0x07000100, 0x80000040);
+    REFUSED("reading 16: a separator of 65,536", 0, 0, 20, 1, 0x07010000, 0x80000040);
+    REFUSED("reading 16: a middle to 16,777,215", 1, 16777214, 21, 1, 0x40000001, 0x8000003F);
     ACCEPTED("reading 16: a middle to 16,777,214", 1, 16777213, 1, 16777214,
              "00 00 00 03 00 00 00 00 00 00 00 01 00 00 00 07 00 00 00 01 00 00 00 3F", 0x40000001, 0x8000003F);
-    REFUSED("reading 16: a last to 16,777,216", 1, 16777214, 11, 1, 0x60000002, 0x8000003E);
+    REFUSED("reading 16: a last to 16,777,216", 1, 16777214, 21, 1, 0x60000002, 0x8000003E);
     ACCEPTED("reading 16: a last to 16,777,215", 1, 16777214, 2, 16777215,
              "00 00 00 05 00 00 00 00 00 00 00 01 00 00 00 07 00 00 00 01 00 00 00 3F", 0x60000001, 0x8000003F);
     ACCEPTED("reading 16: a total of 16,777,215", 2, 16777215, 0, 0,

@@ -95,13 +95,13 @@ static void read_refusals(void)
     leave(&s);
 }
 
-/* 8 to 13, each at each place of a table of five */
+/* 8 to 13 and 19 to 22, each at each place of a table of five */
 static void read_entry_refusals(void)
 {
     static const struct { uint32_t refusal, entry; } faults[] = {
         { 8, 0x43000001 }, { 8, 0x00000000 }, { 8, 0xFF000000 }, { 8, 0x10000001 }, { 9, 0x63000001 }, { 9, 0x07000000 },
         { 9, 0x80000040 }, { 9, 0x01000000 }, { 10, 0x09000000 }, { 10, 0x48000001 }, { 10, 0x68000001 }, { 10, 0x88000040 },
-        { 11, 0x6B000000 }, { 11, 0x0F000002 }, { 11, 0x4A000000 }, { 11, 0x4AFFFFFF }, { 12, 0x6B00000D }, { 12, 0x4A00000D },
+        { 19, 0x6B000000 }, { 20, 0x0F000002 }, { 19, 0x4A000000 }, { 21, 0x4AFFFFFF }, { 12, 0x6B00000D }, { 12, 0x4A00000D },
         { 12, 0x6BFFFFFF }, { 12, 0x4AFFFFFE },
     };
     uint32_t k;
@@ -131,7 +131,7 @@ static void read_first_entry(void)
     desk s = reader(64, 1, 0, 0);
     table(&s, LIST(0x63000001, 0x63000000, 0x43000000, 0x80000000));
     reads(&s, 1, 4);
-    refused(&s, "11 at 2 before 8 at 3", 11, 2);
+    refused(&s, "19 at 2 before 8 at 3", 19, 2);
     table(&s, LIST(0x6B000011, 0x07000000, 0x80000000));
     reads(&s, 1, 3);
     refused(&s, "9 at 2, after a keeping entry 1", 9, 2);

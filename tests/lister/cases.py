@@ -523,63 +523,72 @@ case('refused-10-last-last', run(OPEN, [last(1)]), '''
     skip 24 40
     refused 10 at 1''')
 
-case('refused-10-not-11', run([last(0), total(0), skip(64)]), 'refused 10 at 1')
+case('refused-10-not-19', run([last(0), total(0), skip(64)]), 'refused 10 at 1')
 case('refused-10-not-13', run([entire(5), skip(7), skip(59)]), 'refused 10 at 2')
 
 
-# ---- Refusal 11: count breaks its rule. A skip has no such rule, so entry n cannot break it. ---------------------------
+# ---- Refusals 19 to 22: which count is wrong. A skip has no such rule, so entry n cannot break it. ----------------------
 
-case('refused-11-first-entire-0', run([entire(0), skip(64)]), 'refused 11 at 1')
-case('refused-11-first-separator-2', run([separator(2), skip(64)]), 'refused 11 at 1')
-case('refused-11-first-start-0', run([start(0), skip(64)]), 'refused 11 at 1')
-case('refused-11-not-12', run([start(16777215), skip(64)]), 'refused 11 at 1')
-case('refused-11-middle-separator-16777215', run([entire(4), separator(16777215), skip(60)]), 'refused 11 at 2')
-case('refused-11-middle-entire-0', run([entire(4), entire(0), skip(60)]), 'refused 11 at 2')
+case('refused-19-first-entire-0', run([entire(0), skip(64)]), 'refused 19 at 1')
+case('refused-20-first-separator-2', run([separator(2), skip(64)]), 'refused 20 at 1')
+case('refused-19-first-start-0', run([start(0), skip(64)]), 'refused 19 at 1')
+case('refused-21-not-12', run([start(16777215), skip(64)]), 'refused 21 at 1')
+case('refused-20-middle-separator-16777215', run([entire(4), separator(16777215), skip(60)]), 'refused 20 at 2')
+case('refused-19-middle-entire-0', run([entire(4), entire(0), skip(60)]), 'refused 19 at 2')
 
-case('refused-11-middle-0', run(OPEN, [middle(0), skip(64)]), '''
+case('refused-19-middle-0', run(OPEN, [middle(0), skip(64)]), '''
     group 1 entries 2
     start 0 24
     skip 24 40
-    refused 11 at 1''')
+    refused 19 at 1''')
 
-case('refused-11-last-0', run(OPEN, [last(0), total(24), skip(64)]), '''
+case('refused-19-last-0', run(OPEN, [last(0), total(24), skip(64)]), '''
     group 1 entries 2
     start 0 24
     skip 24 40
-    refused 11 at 1''')
+    refused 19 at 1''')
 
-case('refused-11-sum-of-a-middle', run(OPEN, [middle(16777191), skip(64)]), '''
+case('refused-21-sum-of-a-middle', run(OPEN, [middle(16777191), skip(64)]), '''
     group 1 entries 2
     start 0 24
     skip 24 40
-    refused 11 at 1''')
+    refused 21 at 1''')
 
-case('refused-11-sum-of-a-last', run(OPEN, [last(16777192), skip(64)]), '''
+case('refused-21-sum-of-a-last', run(OPEN, [last(16777192), skip(64)]), '''
     group 1 entries 2
     start 0 24
     skip 24 40
-    refused 11 at 1''')
+    refused 21 at 1''')
 
-case('refused-11-total-one-too-small', run(OPEN, [last(1), total(24), skip(63)]), '''
+case('refused-22-total-one-too-small', run(OPEN, [last(1), total(24), skip(63)]), '''
     group 1 entries 2
     start 0 24
     skip 24 40
-    refused 11 at 2''')
+    refused 22 at 2''')
 
-case('refused-11-total-one-too-large', run(OPEN, [last(1), total(26), skip(63)]), '''
+case('refused-22-total-one-too-large', run(OPEN, [last(1), total(26), skip(63)]), '''
     group 1 entries 2
     start 0 24
     skip 24 40
-    refused 11 at 2''')
+    refused 22 at 2''')
 
-case('refused-11-owed-total-differs', run(OPEN, [last(21), skip(43)], [total(21), skip(64)]), '''
+case('refused-22-owed-total-differs', run(OPEN, [last(21), skip(43)], [total(21), skip(64)]), '''
     group 1 entries 2
     start 0 24
     skip 24 40
     group 2 entries 2
     last 0 21
     skip 21 43
-    refused 11 at 1''')
+    refused 22 at 1''')
+
+case('refused-22-owed-total-of-0', run(OPEN, [last(21), skip(43)], [total(0), skip(64)]), '''
+    group 1 entries 2
+    start 0 24
+    skip 24 40
+    group 2 entries 2
+    last 0 21
+    skip 21 43
+    refused 22 at 1''')
 
 
 # ---- Refusal 12: data would pass L − 32 − 4n. Only kinds 3 to 6 can, so not entry n. ----------------------------------
@@ -625,7 +634,7 @@ case('refused-13-in-the-last-group', run(A, [entire(20), skip(43)]), '''
 
 # ---- The first entry that breaks a rule, and nothing after it ---------------------------------------------------------
 
-case('first-broken-entry-is-told', run([entire(1), separator(2), entry(0x43, 0), skip(1)]), 'refused 11 at 2')
+case('first-broken-entry-is-told', run([entire(1), separator(2), entry(0x43, 0), skip(1)]), 'refused 20 at 2')
 case('refused-and-images-missing', head([(1, 1), (2, 1)]) + image([skip(63)]), 'refused 13 at 1')
 case('refused-and-extra-bytes', run([skip(63)]) + b'more', 'refused 13 at 1')
 case('refused-and-lawful-groups-after', run([skip(63)], [skip(64)]), 'refused 13 at 1')

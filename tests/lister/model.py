@@ -59,21 +59,16 @@ def follow_kept(stand, kind, k, n):
     return kind in FOLLOWS[stand] and (kind == 'skip') == (k == n)
 
 
-def count_kept(kind, total, count):
-    """11: "a zero part, separator above 1, an over-long sum and a total that differs". """
-    if kind == 'total':
-        return count == total
-    if kind == 'separator':
-        return count <= 1
-    if kind == 'start':
-        return 1 <= count <= LONGEST_RECORD - 1
-    if kind == 'middle':
-        return 1 <= count and total + count <= LONGEST_RECORD - 1
-    if kind == 'last':
-        return 1 <= count and total + count <= LONGEST_RECORD
-    if kind == 'entire':
-        return 1 <= count <= LONGEST_RECORD
-    return True
+def count_refusal(kind, total, count):
+    """Which count is wrong: "19 zero part, 20 separator above 1, 21 record too long, 22 total differs"; 0 if none is."""
+    if kind in PARTS and count == 0:
+        return 19
+    if kind == 'separator' and count > 1:
+        return 20
+    most = {'start': LONGEST_RECORD - 1, 'middle': LONGEST_RECORD - 1 - total, 'last': LONGEST_RECORD - total}
+    if kind in most and count > most[kind]:
+        return 21
+    return 22 if kind == 'total' and count != total else 0
 
 
 def room_kept(kind, offset, count, size, n):
@@ -144,8 +139,9 @@ class Reader:
                 raise Refusal(9, k)
             if not follow_kept(stand, kind, k, n):
                 raise Refusal(10, k)
-            if not count_kept(kind, total, count):
-                raise Refusal(11, k)
+            wrong = count_refusal(kind, total, count)
+            if wrong:
+                raise Refusal(wrong, k)
             if not room_kept(kind, offset, count, self.size, n):
                 raise Refusal(12, k)
             if not skip_kept(kind, offset, count, self.size):

@@ -1,7 +1,7 @@
 -- The theorems of this crate, each under document 01's sentence. The crates above cite these.
 -- Assumes nothing.
 use mathlib.Core.Path.{_≡_, refl, ap, _∙_}
-use mathlib.Core.Logic.{_↔_, inl}
+use mathlib.Core.Logic.{_↔_}
 use mathlib.Core.Bool.{Bool, true, false, cond}
 use mathlib.Core.List.{List, [], _∷_}
 use Prim.Native.Nat.{ℕ, _/_}
@@ -95,6 +95,6 @@ module _ (state group : List ℕ) (number n : ℕ) (rows answer : List ℕ) wher
 
       by : (kept : Bool) → lengthsKept (length state) readerLength (length answer) ≡ kept → (meant : Bool) (a : ReadAnswer) → own ≡ a → (all kept meant a .refusal ≡ 0 → ⊥) → ReadRefused state n rows answer (all kept meant a)
       by false e meant a f z = ReadRefused.by-a-length e
-      by true e false a f z = ReadRefused.told {s = readerOf state} (RefusedRead.before-the-scan (inl refl))
+      by true e false a f z = ReadRefused.told {s = readerOf state} (RefusedRead.before-the-scan refl)
       by true e true (read.Accepted t) f z = absurd (z refl)
       by true e true (read.Refused t refusal place) f z = ReadRefused.told (read-refuses _ t group number n _ refusal place f)

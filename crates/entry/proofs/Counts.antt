@@ -1,15 +1,17 @@
 -- A count that keeps its rule, as facts on numbers: what the crates above cite, so that none of them writes out a refusal's number.
 -- Assumes nothing.
 use mathlib.Core.Path.{_≡_, refl}
-use mathlib.Core.Bool.{Bool, true, false, cond}
+use mathlib.Core.Bool.{Bool, true, false, cond, not}
 use Prim.Native.Nat.{ℕ, suc, _+_, _-_, _≤_}
 use native.Mathlib.Omega.{arith}
-use borrow.Author.Tests.{eq-eqb, le-leb, eqb-true, leb-true}
+use borrow.Author.Tests.{eq-eqb, le-leb, eqb-true, leb-true, not-false}
 use lib.Dec.{eqb, leb}
 use Rattle.group.specs.declared.Kind.{Kind}
 use Rattle.group.specs.declared.Kind.the-variants.{Total, Separator, Middle, Start, Last, Entire, Skip}
 use Rattle.group.specs.Sizes.{longestRecord}
-use Rattle.entry.specs.Rules.{countFault, partFault}
+use Rattle.numbers.proofs.Tests.{passed}
+use Rattle.entry.specs.Rules.{countFault}
+use Rattle.entry.specs.Bounds.{partFault}
 
 -- A part of 1 byte or more, up to which the parts add to at most so much.
 abbrev pub PartKept : (count parts most : ℕ) → Type 0
@@ -25,22 +27,19 @@ CountKept Entire sum count = PartKept count count longestRecord
 CountKept Skip sum count = Unit {0}
 
 -- A test that gives 0 was passed.
-passes : (b : Bool) (k : ℕ) → cond b 0 (suc k) ≡ 0 → b ≡ true
+passes : (b : Bool) (k : ℕ) → cond (not b) (suc k) 0 ≡ 0 → b ≡ true
 passes true k e = refl
 passes false k e = absurd (omega arith)
 
 part-kept : (count parts most : ℕ) → partFault count parts most ≡ 0 → PartKept count parts most
-part-kept count parts most e = by (leb 1 count) refl (leb parts most) refl e
-  where
-    by : (a : Bool) → leb 1 count ≡ a → (b : Bool) → leb parts most ≡ b → _≡_ {A = ℕ} (cond a (cond b 0 11) 11) 0 → PartKept count parts most
-    by true x true y h = (leb-true 1 count x, leb-true parts most y)
-    by true x false y h = absurd (omega arith)
-    by false x b y h = absurd (omega arith)
+part-kept count parts most e =
+    let a = passed (not (leb 1 count)) 18 e in
+    (leb-true 1 count (not-false _ (a .0)), leb-true parts most (passes (leb parts most) 20 (a .1)))
 
 -- No fault of a count is its rule kept, and the other way round.
 pub count-kept : (k : Kind) (sum count : ℕ) → countFault k sum count ≡ 0 → CountKept k sum count
-count-kept Total sum count e = eqb-true count sum (passes (eqb count sum) 10 e)
-count-kept Separator sum count e = leb-true count 1 (passes (leb count 1) 10 e)
+count-kept Total sum count e = eqb-true count sum (passes (eqb count sum) 21 e)
+count-kept Separator sum count e = leb-true count 1 (passes (leb count 1) 19 e)
 count-kept Middle sum count e = part-kept count (sum + count) (longestRecord - 1) e
 count-kept Start sum count e = part-kept count count (longestRecord - 1) e
 count-kept Last sum count e = part-kept count (sum + count) longestRecord e

@@ -48,7 +48,7 @@ module _ (sum count : ℕ) where
   pub total-kept : count ≡ sum → 0 ≡ countFault Total sum count
   total-kept e = rw (eq-eqb count sum e)
 
-  pub total-differs : (count ≡ sum → ⊥) → 11 ≡ countFault Total sum count
+  pub total-differs : (count ≡ sum → ⊥) → 22 ≡ countFault Total sum count
   total-differs e = rw (ne-eqb count sum e)
 
 -- A skip's count, against L less the data before it.

@@ -2,4 +2,6 @@
 pub mod Counts
 pub mod Faults
 pub mod Scans
+pub mod Suits
+pub mod Reasons
 pub mod Tables

@@ -1,4 +1,5 @@
--- Document 01, "Which entry may follow" and "Numbers the firmware sees", 8 to 13: the rules of one entry.
+-- Document 01, "Which entry may follow" and "Numbers the firmware sees": the rules of one entry, 8 to 10, then 19 to 22 of change
+-- request 2026-02 in the place of 11, then 12 and 13.
 -- Assumes nothing.
 use Prim.Native.Nat.{ℕ, _+_, _-_}
 use mathlib.Core.List.{List, [], _∷_}
@@ -95,19 +96,36 @@ b4Kept before warned = not before || warned
 abbrev pub followKept : Stand → Kind → Bool → Bool
 followKept stand k last = mayFollow stand k && cond last (isSkip k) (not (isSkip k))
 
--- 11: a zero part, an over-long sum. A part's count is 1 or more, and the parts add to at most so much.
-abbrev pub partFault : (count parts most : ℕ) → ℕ
-partFault count parts most = cond (leb 1 count) (cond (leb parts most) 0 11) 11
+-- 19, a zero part: "Counts of kinds 3 to 6 are at least 1."
+abbrev pub zeroPart : Kind → ℕ → Bool
+zeroPart k count = holdsData k && not (leb 1 count)
 
--- 11 "covers a zero part, separator above 1, an over-long sum and a total that differs"; 0 if the count keeps its rule.
-abbrev pub countFault : Kind → ℕ → ℕ → ℕ
-countFault Total sum count = cond (eqb count sum) 0 11
-countFault Separator sum count = cond (leb count 1) 0 11
-countFault Middle sum count = partFault count (sum + count) (longestRecord - 1)
-countFault Start sum count = partFault count count (longestRecord - 1)
-countFault Last sum count = partFault count (sum + count) longestRecord
-countFault Entire sum count = partFault count count longestRecord
-countFault Skip sum count = 0
+-- 20, a separator above 1: "0 for Separator 1, 1 for Separator 2".
+abbrev pub aboveOne : Kind → ℕ → Bool
+aboveOne k count = isAmong k (Separator ∷ []) && not (leb count 1)
+
+-- 21, a record too long: "The parts of a record after a start or middle add to at most 16,777,214; after its last, to at most
+-- 16,777,215." "A record is 1 to 16,777,215 bytes."
+abbrev pub tooLong : Kind → (sum count : ℕ) → Bool
+tooLong Total sum count = false
+tooLong Separator sum count = false
+tooLong Middle sum count = not (leb (sum + count) (longestRecord - 1))
+tooLong Start sum count = not (leb count (longestRecord - 1))
+tooLong Last sum count = not (leb (sum + count) longestRecord)
+tooLong Entire sum count = not (leb count longestRecord)
+tooLong Skip sum count = false
+
+-- 22, a total that differs: "A total equals the sum of its parts."
+abbrev pub differs : Kind → (sum count : ℕ) → Bool
+differs k sum count = isAmong k (Total ∷ []) && not (eqb count sum)
+
+-- "19 zero part, 20 separator above 1, 21 record too long, 22 total differs": which of them, 0 if the count keeps its rule.
+abbrev pub countFault : Kind → (sum count : ℕ) → ℕ
+countFault k sum count =
+    cond (zeroPart k count) 19
+    (cond (aboveOne k count) 20
+    (cond (tooLong k sum count) 21
+    (cond (differs k sum count) 22 0)))
 
 -- 12: the data that this entry reaches stays within the limit, L − 32 − 4n.
 abbrev pub roomKept : Kind → (reached count limit : ℕ) → Bool
@@ -126,7 +144,8 @@ abbrev pub dataFault : (size limit reached : ℕ) → Kind → (count : ℕ) →
 dataFault size limit reached k count =
     cond (not (roomKept k reached count limit)) 12 (cond (not (skipKept k reached count size)) 13 0)
 
--- "at one entry 8 to 13 in number order": the number of the first rule that is broken, 0 if none is.
+-- "at one entry 8 to 13 in number order", where "in its place in the order come" 19 to 22 for 11: the number of the first rule that is
+-- broken, 0 if none is.
 unfoldable pub entryFault : (size limit : ℕ) (last : Bool) → Cursor → Meaning → (count : ℕ) → ℕ
 entryFault size limit last c Unknown count = 8
 entryFault size limit last c (Known k warned) count =

@@ -4,9 +4,9 @@ ghost use Prim.Native.Nat.{_+_, _/_, _%_, _^_, _≤_, _<_};
 ghost use Rattle.group.specs.Sizes.{standardSize, longestRecord};
 ghost use Rattle.group.specs.Flags.{meaningOf};
 ghost use Rattle.group.specs.Coded.{codeOf, Below};
-ghost use Rattle.entry.specs.Rules.{mayFollow, isSkip, holdsData, standAfter, sumAfter, reachedAfter, b4Kept, partFault, countFault, followKept, dataFault, entryFault};
+ghost use Rattle.entry.specs.Rules.{mayFollow, isSkip, holdsData, standAfter, sumAfter, reachedAfter, b4Kept, countFault, followKept, dataFault, entryFault};
 ghost use Rattle.entry.specs.Scan.{after, reachedBy};
-ghost use Rattle.entry.specs.Bounds.{standNumber, followTable, Bounded};
+ghost use Rattle.entry.specs.Bounds.{standNumber, followTable, Bounded, partFault};
 use crate::Cursor;
 use crate::Stand;
 use group::Group;
@@ -69,19 +69,20 @@ fn follow_kept(follows: &[[bool; 8]; 5], stand: Stand, kind: Kind, last: bool) -
     !is_skip(kind)
 }
 
+// 19 and 21 of a part, up to which the parts add to so much.
 fn part_fault(count: u32, parts: u32, most: u32) -> u32
     ensures { λ r. ⌜ r ≡ partFault count parts most ⌝ }
 {
     if count < 1 {
-        return 11;
+        return 19;
     }
     if most < parts {
-        return 11;
+        return 21;
     }
     0
 }
 
-// 11, at each kind.
+// 19 to 22, at each kind.
 fn count_fault(kind: Kind, sum: u32, count: u32) -> u32
     requires { ⌜ (sum ≤ longestRecord) × (count ≤ longestRecord) ⌝ }
     ensures { λ r. ⌜ r ≡ countFault kind sum count ⌝ }
@@ -91,13 +92,13 @@ fn count_fault(kind: Kind, sum: u32, count: u32) -> u32
             if count == sum {
                 return 0;
             }
-            11
+            22
         }
         Kind::Separator => {
             if count <= 1 {
                 return 0;
             }
-            11
+            20
         }
         Kind::Middle => part_fault(count, sum + count, Group::LONGEST_RECORD - 1),
         Kind::Start => part_fault(count, count, Group::LONGEST_RECORD - 1),
@@ -185,8 +186,8 @@ fn b4_kept(before: bool, warned: bool) -> bool
     if before { warned } else { true }
 }
 
-// 8 to 13 of one entry, in number order: the number of the first rule that is broken, 0 if none is. `code` is what the flag
-// means, and `limit` is L − 32 − 4n.
+// 8 to 10, 19 to 22, 12 and 13 of one entry, in this order: the number of the first rule that is broken, 0 if none is. `code` is
+// what the flag means, and `limit` is L − 32 − 4n.
 pub fn entry_fault(
     follows: &[[bool; 8]; 5],
     size: u32,

@@ -317,7 +317,7 @@ p11 =
       expected = readings (filling startRows ∷ refusing 10 1 1 ∷ []) insideReader;
     }
 
--- "P12: a total one too small gives 11": after a start of 24 and a last of 1, at the total's place.
+-- "P12: a total one too small gives 11", by change request 2026-02 "Case P12 becomes 22": after a start of 24 and a last of 1, at the total's place.
 abbrev pub p12 : Case
 p12 =
     record {
@@ -326,7 +326,7 @@ p12 =
           (image 1 2 startGroup
           ∷ image 2 3 (from 25 1 ++ zeros 19 ++ (0x80 ∷ 0 ∷ 0 ∷ 63 ∷ 0x01 ∷ 0 ∷ 0 ∷ 24 ∷ 0x60 ∷ 0 ∷ 0 ∷ 1 ∷ []) ++ information)
           ∷ []);
-      expected = readings (filling startRows ∷ refusing 11 2 3 ∷ []) insideReader;
+      expected = readings (filling startRows ∷ refusing 22 2 3 ∷ []) insideReader;
     }
 
 -- Beside the table: all entries of a call that sets b4 carry it, those of later calls to the close too, and the next group

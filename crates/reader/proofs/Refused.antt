@@ -3,15 +3,13 @@
 use Prim.Native.Nat.{ℕ, suc, _+_, _-_, _≤_, _<_}
 use native.Mathlib.Omega.{arith}
 use mathlib.Core.List.{List, [], _∷_}
-use mathlib.Core.Path.{_≡_, refl, subst}
+use mathlib.Core.Path.{_≡_, refl, sym, ap, _∙_, subst}
 use mathlib.Core.Logic.{_⊎_, inl, inr}
-use mathlib.Core.Bool.{Bool, true, false, cond, not}
+use mathlib.Core.Bool.{Bool, true, false, cond, not, true≢false}
 use borrow.Author.Tests.{eqb-false}
-use lib.Dec.{eqb, leb}
+use lib.Dec.{eqb}
 use lib.ListN.{length}
 use Rattle.group.specs.declared.Entry.{Entry}
-use Rattle.group.specs.declared.Kind.{Kind}
-use Rattle.group.specs.declared.Kind.the-variants.{Total, Separator, Middle, Start, Last, Entire, Skip}
 use Rattle.group.specs.declared.Meaning.{Meaning}
 use Rattle.group.specs.declared.Meaning.the-variants.{Known, Unknown}
 use Rattle.group.specs.Sizes.{entriesKept, informationLength}
@@ -21,53 +19,43 @@ use Rattle.group.proofs.EntryLaws.{length-entries}
 use Rattle.entry.specs.declared.Cursor.{Cursor}
 use Rattle.entry.specs.declared.ScanEnd.{ScanEnd}
 use Rattle.entry.specs.declared.ScanEnd.the-variants as scanned
-use Rattle.entry.specs.Rules.{b4Kept, followKept, partFault, countFault, roomKept, skipKept, dataFault, entryFault}
+use Rattle.entry.specs.Rules.{b4Kept, followKept, zeroPart, aboveOne, tooLong, differs, orElse, roomKept, skipKept, entryFault}
 use Rattle.entry.specs.Scan.{after, isLast, scan}
 use Rattle.reader.specs.declared.Reader.{Reader}
 use Rattle.reader.specs.declared.ReadAnswer.the-variants as answer
 use Rattle.reader.specs.Answer.{sound, lengthKept, nextIs, rowsFit, readRefusal, opening, groupScan, answered, readCall}
-use Rattle.reader.specs.Refused.{RefusedRead}
+use Rattle.reader.specs.Refused.{isOneOf, beforeScan, atEntry, RefusedRead}
 
--- 8 to 13, or 0.
-abbrev Numbered : ℕ → Type 0
-Numbered f = (f ≡ 0) ⊎ ((8 ≤ f) × (f ≤ 13))
+-- 0, or one of these.
+abbrev NoneOr : List ℕ → ℕ → Type 0
+NoneOr numbers f = (f ≡ 0) ⊎ (isOneOf f numbers ≡ true)
 
-pick : (b : Bool) (x y : ℕ) → Numbered x → Numbered y → Numbered (cond b x y)
-pick true x y p q = p
-pick false x y p q = q
+-- One test of a chain: its number is one of these, and so is what comes after it.
+pick : (numbers : List ℕ) (b : Bool) (n rest : ℕ) → isOneOf n numbers ≡ true → NoneOr numbers rest → NoneOr numbers (cond b n rest)
+pick numbers true n rest e r = inr e
+pick numbers false n rest e r = r
 
-is : (f : ℕ) → 8 ≤ f → f ≤ 13 → Numbered f
-is f h k = inr (h, k)
-
-part-numbered : (count parts most : ℕ) → Numbered (partFault count parts most)
-part-numbered count parts most = pick (leb 1 count) _ 11 (pick (leb parts most) 0 11 (inl refl) (is 11 (omega arith) (omega arith))) (is 11 (omega arith) (omega arith))
-
-count-numbered : (k : Kind) (sum count : ℕ) → Numbered (countFault k sum count)
-count-numbered Total sum count = pick (eqb count sum) 0 11 (inl refl) (is 11 (omega arith) (omega arith))
-count-numbered Separator sum count = pick (leb count 1) 0 11 (inl refl) (is 11 (omega arith) (omega arith))
-count-numbered Middle sum count = part-numbered count (sum + count) _
-count-numbered Start sum count = part-numbered count count _
-count-numbered Last sum count = part-numbered count (sum + count) _
-count-numbered Entire sum count = part-numbered count count _
-count-numbered Skip sum count = inl refl
-
-data-numbered : (size limit reached : ℕ) (k : Kind) (count : ℕ) → Numbered (dataFault size limit reached k count)
-data-numbered size limit reached k count =
-    pick (not (roomKept k reached count limit)) 12 _ (is 12 (omega arith) (omega arith))
-    (pick (not (skipKept k reached count size)) 13 0 (is 13 (omega arith) (omega arith)) (inl refl))
-
-entry-numbered : (size limit : ℕ) (last : Bool) (c : Cursor) (m : Meaning) (count : ℕ) → Numbered (entryFault size limit last c m count)
+entry-numbered : (size limit : ℕ) (last : Bool) (c : Cursor) (m : Meaning) (count : ℕ) → NoneOr atEntry (entryFault size limit last c m count)
 unfolding entryFault
-entry-numbered size limit last c Unknown count = is 8 (omega arith) (omega arith)
+entry-numbered size limit last c Unknown count = inr refl
 entry-numbered size limit last c (Known k w) count =
-    pick (not (b4Kept (c .warned) w)) 9 _ (is 9 (omega arith) (omega arith))
-    (pick (not (followKept (c .stand) k last)) 10 _ (is 10 (omega arith) (omega arith))
-    (pick (eqb (countFault k (c .sum) count) 0) _ _ (data-numbered size limit (c .reached) k count) (count-numbered k (c .sum) count)))
+    pick atEntry (not (b4Kept (c .warned) w)) 9 _ refl
+    (pick atEntry (not (followKept (c .stand) k last)) 10 _ refl
+    (or-else
+    (pick atEntry (zeroPart k count) 19 _ refl
+    (pick atEntry (aboveOne k count) 20 _ refl (pick atEntry (tooLong k (c .sum) count) 21 _ refl (pick atEntry (differs k (c .sum) count) 22 0 refl (inl refl)))))
+    (pick atEntry (not (roomKept k (c .reached) count limit)) 12 _ refl (pick atEntry (not (skipKept k (c .reached) count size)) 13 0 refl (inl refl)))))
+  where
+    or-else : {fault rest : ℕ} → NoneOr atEntry fault → NoneOr atEntry rest → NoneOr atEntry (orElse fault rest)
+    or-else {fault} {rest} f r = by (eqb fault 0)
+      where
+        by : (b : Bool) → NoneOr atEntry (cond b rest fault)
+        by true = r
+        by false = f
 
 -- What a scan that is refused tells: its entry is one of the n from the first on.
 record AtEntry (first n fault place : ℕ) : Type 0 where
-  low : 8 ≤ fault
-  high : fault ≤ 13
+  told : isOneOf fault atEntry ≡ true
   from : first ≤ place
   to : place < first + n
 
@@ -85,35 +73,26 @@ scan-place size limit (x ∷ xs) place c fault at d e =
     rest : ScanEnd
     rest = scan size limit xs (suc place) (after c (meaningOf (x .flag)) (x .count))
 
-    by : (b : Bool) → eqb f 0 ≡ b → Numbered f → (rest ≡ scanned.Refused fault at d → AtEntry (suc place) (length xs) fault at) →
+    by : (b : Bool) → eqb f 0 ≡ b → NoneOr atEntry f → (rest ≡ scanned.Refused fault at d → AtEntry (suc place) (length xs) fault at) →
         cond b rest (scanned.Refused f place c) ≡ scanned.Refused fault at d → AtEntry place (suc (length xs)) fault at
     by true p q more h =
         let r = more h in
-        record { low = r .low; high = r .high; from = omega (arith, r .from); to = omega (arith, r .to) }
+        record { told = r .told; from = omega (arith, r .from); to = omega (arith, r .to) }
     by false p (inl z) more h = absurd (eqb-false f 0 p z)
-    by false p (inr (low, high)) more h =
+    by false p (inr told) more h =
         let same : f ≡ fault = cc in
         let where-at : place ≡ at = cc in
-        record { low = omega arith; high = omega arith; from = omega arith; to = omega arith }
+        record { told = rw (← same) told; from = omega arith; to = omega arith }
 
--- 0, or 1 or 4 to 7.
-abbrev Before : ℕ → Type 0
-Before r = (r ≡ 0) ⊎ ((r ≡ 1) ⊎ ((4 ≤ r) × (r ≤ 7)))
-
-before-numbered : (s : Reader) (long number n room : ℕ) → Before (readRefusal s long number n room)
+before-numbered : (s : Reader) (long number n room : ℕ) → NoneOr beforeScan (readRefusal s long number n room)
 unfolding readRefusal
-before-numbered s long number n room = by (not (sound s)) (not (lengthKept s long)) (not (nextIs s number)) (not (entriesKept (s .size) n)) (not (rowsFit n room))
-  where
-    by : (p q r t u : Bool) → Before (cond p 1 (cond q 4 (cond r 5 (cond t 6 (cond u 7 0)))))
-    by true q r t u = inr (inl refl)
-    by false true r t u = inr (inr (omega arith, omega arith))
-    by false false true t u = inr (inr (omega arith, omega arith))
-    by false false false true u = inr (inr (omega arith, omega arith))
-    by false false false false true = inr (inr (omega arith, omega arith))
-    by false false false false false = inl refl
+before-numbered s long number n room =
+    pick beforeScan (not (sound s)) 1 _ refl
+    (pick beforeScan (not (lengthKept s long)) 4 _ refl
+    (pick beforeScan (not (nextIs s number)) 5 _ refl (pick beforeScan (not (entriesKept (s .size) n)) 6 _ refl (pick beforeScan (not (rowsFit n room)) 7 0 refl (inl refl)))))
 
--- "A refusal answers the number, the place (k for 8 to 13, else 0) and the state as given": 1 or 4 to 7 before the scan, 8 to 13 at
--- one of the n entries.
+-- "A refusal answers the number, the place (k for 8 to 13, else 0) and the state as given": 1 or 4 to 7 before the scan, and at
+-- one of the n entries one of the numbers that are told there.
 pub read-refuses : (s t : Reader) (group : List ℕ) (number n room refusal place : ℕ) → readCall s group number n room ≡ answer.Refused t refusal place →
     RefusedRead s n t refusal place
 unfolding readCall groupScan
@@ -123,14 +102,14 @@ read-refuses s t group number n room refusal place e = by (eqb r 0) refl (groupS
     r = readRefusal s (length group) number n room
 
     by : (b : Bool) → eqb r 0 ≡ b → (o : ScanEnd) → groupScan s group n ≡ o → cond b (answered s o) (answer.Refused s r 0) ≡ answer.Refused t refusal place
-        → Before r → RefusedRead s n t refusal place
+        → NoneOr beforeScan r → RefusedRead s n t refusal place
     by true p (scanned.Reached c) q h x = let z : _≡_ {A = ℕ} 0 1 = cc in absurd (omega arith)
     by true p (scanned.Refused fault at c) q h x =
         let a = scan-place _ _ (entriesBelow group (s .size - informationLength) n) 1 (opening s) fault at c q in
         let f : fault ≡ refusal = cc in
         let g : at ≡ place = cc in
         let u : s ≡ t = cc in
-        subst (λ (v : Reader). RefusedRead s n v refusal place) u (RefusedRead.at-an-entry (omega (arith, a .low)) (omega (arith, a .high)) (omega (arith, a .from)) (omega (arith, a .to, length-entries group (s .size - informationLength) n)))
+        subst (λ (v : Reader). RefusedRead s n v refusal place) u (RefusedRead.at-an-entry (rw (← f) (a .told)) (omega (arith, a .from)) (omega (arith, a .to, length-entries group (s .size - informationLength) n)))
     by false p o q h (inl z) = absurd (eqb-false r 0 p z)
     by false p o q h (inr y) =
         let f : r ≡ refusal = cc in
@@ -138,8 +117,15 @@ read-refuses s t group number n room refusal place e = by (eqb r 0) refl (groupS
         let u : s ≡ t = cc in
         rw (← f, ← g, ← u) (RefusedRead.before-the-scan y)
 
+-- A number that none of them is, is not told.
+not-told : {s t : Reader} {n refusal place : ℕ} (m : ℕ) → isOneOf m beforeScan ≡ false → isOneOf m atEntry ≡ false → RefusedRead s n t refusal place → refusal ≡ m → ⊥
+not-told m b e (RefusedRead.before-the-scan h) z = true≢false (sym h ∙ ap (λ (k : ℕ). isOneOf k beforeScan) z ∙ b)
+not-told m b e (RefusedRead.at-an-entry h low high) z = true≢false (sym h ∙ ap (λ (k : ℕ). isOneOf k atEntry) z ∙ e)
+
 -- "Each call returns the number, 0 if accepted": no refusal is 0.
 pub read-not-zero : {s t : Reader} {n refusal place : ℕ} → RefusedRead s n t refusal place → refusal ≡ 0 → ⊥
-read-not-zero (RefusedRead.before-the-scan (inl h)) z = omega arith
-read-not-zero (RefusedRead.before-the-scan (inr (h, k))) z = omega arith
-read-not-zero (RefusedRead.at-an-entry a b c d) z = omega arith
+read-not-zero r z = not-told 0 refl refl r z
+
+-- "11 is never given again"
+pub never-eleven : (s t : Reader) (group : List ℕ) (number n room place : ℕ) → readCall s group number n room ≡ answer.Refused t 11 place → ⊥
+never-eleven s t group number n room place e = not-told 11 refl refl (read-refuses s t group number n room 11 place e) refl
