@@ -49,7 +49,10 @@ static uint32_t answer_with(uint8_t *answer, uint32_t refusal, uint32_t place, u
     return refusal;
 }
 
-static uint32_t refuse(uint8_t *answer, uint32_t refusal, uint32_t place) { return answer_with(answer, refusal, place, 0, 0, 0, 0); }
+static uint32_t refuse(uint8_t *answer, uint32_t refusal, uint32_t place)
+{
+    return answer_with(answer, refusal, place, 0, 0, 0, 0);
+}
 
 static int common_sound(uint32_t size, uint32_t next, uint32_t phase, uint32_t sum)
 {

@@ -84,8 +84,8 @@ static uint32_t answered(uint8_t *answer, uint32_t refusal, uint32_t place)
 
 static int rows_wrong(uint32_t row_len, size_t rows_len) { return row_len == 0 || rows_len != 46 * (uint64_t)row_len; }
 
-uint32_t CALL(third_restore_two)(uint32_t row_len, uint32_t first, uint32_t second, uint8_t *rows, size_t rows_len, uint8_t *answer,
-                                 size_t answer_len)
+uint32_t CALL(third_restore_two)(uint32_t row_len, uint32_t first, uint32_t second, uint8_t *rows, size_t rows_len,
+                                 uint8_t *answer, size_t answer_len)
 {
     unsigned apart;
     size_t c, n = row_len;

@@ -205,8 +205,8 @@ uint32_t MODEL(writer_start)(uint32_t size, uint32_t first, uint8_t *state, size
 
 /* ---- Reading */
 
-/* document 02, request 2026-02: which count is wrong, 19 zero part, 20 separator above 1, 21 record too long, 22 total differs; 0 if
-   none. Parts after a start or middle add to at most 16,777,214, after a last to at most 16,777,215. */
+/* document 02, request 2026-02: which count is wrong, 19 zero part, 20 separator above 1, 21 record too long, 22 total differs;
+   0 if none. Parts after a start or middle add to at most 16,777,214, after a last to at most 16,777,215. */
 static num count_refusal(num sum, num kind, num count)
 {
     if (kind == TOTAL && count != sum) return 22;
