@@ -3,7 +3,7 @@
 use mathlib.Core.Path.{_≡_, refl}
 use mathlib.Core.Bool.{Bool, true, false, _&&_}
 use mathlib.Core.List.{List}
-use Prim.Native.Nat.{ℕ, zero, suc, _≤_, _<_}
+use Prim.Native.Nat.{ℕ, zero, suc, _^_, _≤_, _<_}
 use native.Mathlib.Omega.{arith}
 use borrow.Author.Tests.{leb-true, le-leb, lt-leb}
 use Rattle.numbers.specs.Numbers.{field}
@@ -31,16 +31,26 @@ number-of-b4 zero e = refl
 number-of-b4 (suc zero) e = refl
 number-of-b4 (suc (suc n)) e = absurd (omega (arith, leb-true (suc (suc n)) 1 e))
 
+-- The number of a phase, and of b4, has room in four bytes and a meaning.
+pub phase-meant : (p : Phase) → (phaseNumber p < 256 ^ 4) × (phaseMeant (phaseNumber p) ≡ true)
+phase-meant Free = (omega arith, refl)
+phase-meant Inside = (omega arith, refl)
+phase-meant Owed = (omega arith, refl)
+
+pub b4-meant : (b : Bool) → (b4Number b < 256 ^ 4) × (b4Meant (b4Number b) ≡ true)
+b4-meant false = (omega arith, refl)
+b4-meant true = (omega arith, refl)
+
 -- The tests of a writer's slice and of `warn`, one law an exit.
 module _ (slice : List ℕ) (warn : ℕ) where
-  pub phase-unmeant : 2 < field slice 2 → false ≡ writerMeant slice && b4Meant warn
+  pub phase-unmeant : phaseMeant (field slice 2) ≡ false → false ≡ writerMeant slice && b4Meant warn
   unfolding writerMeant
-  phase-unmeant h = rw (lt-leb (field slice 2) 2 h)
+  phase-unmeant h = rw h
 
-  pub b4-unmeant : field slice 2 ≤ 2 → 1 < field slice 6 → false ≡ writerMeant slice && b4Meant warn
+  pub b4-unmeant : phaseMeant (field slice 2) ≡ true → 1 < field slice 6 → false ≡ writerMeant slice && b4Meant warn
   unfolding writerMeant
-  b4-unmeant h k = rw (le-leb (field slice 2) 2 h, lt-leb (field slice 6) 1 k)
+  b4-unmeant h k = rw (h, lt-leb (field slice 6) 1 k)
 
-  pub warn-meant : field slice 2 ≤ 2 → field slice 6 ≤ 1 → b4Meant warn ≡ writerMeant slice && b4Meant warn
+  pub warn-meant : phaseMeant (field slice 2) ≡ true → field slice 6 ≤ 1 → b4Meant warn ≡ writerMeant slice && b4Meant warn
   unfolding writerMeant
-  warn-meant h k = rw (le-leb (field slice 2) 2 h, le-leb (field slice 6) 1 k)
+  warn-meant h k = rw (h, le-leb (field slice 6) 1 k)

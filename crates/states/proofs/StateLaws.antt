@@ -7,8 +7,6 @@ use Prim.Native.Nat.{ℕ, _^_, _≤_, _<_}
 use native.Mathlib.Omega.{arith}
 use lib.ListN.{length}
 use Rattle.numbers.proofs.InBytes.{field-of-bytes, bytes-of-all}
-use Rattle.group.specs.declared.Phase.{Phase}
-use Rattle.group.specs.declared.Phase.the-variants.{Free, Inside, Owed}
 use Rattle.numbers.specs.Numbers.{Bytes, field}
 use Rattle.numbers.proofs.Tests.{both}
 use Rattle.group.proofs.StateLaws.{run-of-sound, sum-small}
@@ -17,8 +15,8 @@ use Rattle.reader.specs.Answer as reader
 use Rattle.laying.specs.declared.Writer.{Writer}
 use Rattle.sound.specs.State.{isFree, isInside, writerSound}
 use Rattle.sound.proofs.SoundLaws.{Sound, sound}
-use Rattle.states.specs.States.{readerLength, writerLength, phaseNumber, phaseMeant, b4Number, b4Meant, readerOf, readerNumbers, readerBytes, readerMeant, writerOf, writerNumbers, writerBytes, writerMeant}
-use Rattle.states.proofs.NumberLaws.{phase-of-number, number-of-phase, b4-of-number, number-of-b4}
+use Rattle.states.specs.States.{readerLength, writerLength, phaseMeant, b4Meant, readerOf, readerNumbers, readerBytes, readerMeant, writerOf, writerNumbers, writerBytes, writerMeant}
+use Rattle.states.proofs.NumberLaws.{phase-of-number, number-of-phase, phase-meant, b4-of-number, number-of-b4, b4-meant}
 
 -- Numbers of a state that have room in four bytes.
 pub record ReaderFits (s : Reader) : Type 0 where
@@ -34,25 +32,30 @@ pub record WriterFits (s : Writer) : Type 0 where
   pub filled : s .filled < 256 ^ 4
   pub entries : s .entries < 256 ^ 4
 
-phase-small : (p : Phase) → phaseNumber p < 256 ^ 4
-phase-small Free = omega arith
-phase-small Inside = omega arith
-phase-small Owed = omega arith
-
-b4-small : (b : Bool) → b4Number b < 256 ^ 4
-b4-small false = omega arith
-b4-small true = omega arith
-
 -- A state that was encoded decodes to itself.
 pub reader-of-bytes : (s : Reader) → ReaderFits s → readerOf (readerBytes s) ≡ s
 unfolding readerOf
 reader-of-bytes s h =
-    rw (field-of-bytes (readerNumbers s) 0 (omega arith) (h .size), field-of-bytes (readerNumbers s) 1 (omega arith) (h .next), field-of-bytes (readerNumbers s) 2 (omega arith) (phase-small (s .phase)), field-of-bytes (readerNumbers s) 3 (omega arith) (h .sum), phase-of-number (s .phase))
+    rw (field-of-bytes (readerNumbers s) 0 (omega arith) (h .size), field-of-bytes (readerNumbers s) 1 (omega arith) (h .next), field-of-bytes (readerNumbers s) 2 (omega arith) (phase-meant (s .phase) .0), field-of-bytes (readerNumbers s) 3 (omega arith) (h .sum), phase-of-number (s .phase))
 
 pub writer-of-bytes : (s : Writer) → WriterFits s → writerOf (writerBytes s) ≡ s
 unfolding writerOf
 writer-of-bytes s h =
-    rw (field-of-bytes (writerNumbers s) 0 (omega arith) (h .size), field-of-bytes (writerNumbers s) 1 (omega arith) (h .next), field-of-bytes (writerNumbers s) 2 (omega arith) (phase-small (s .phase)), field-of-bytes (writerNumbers s) 3 (omega arith) (h .sum), field-of-bytes (writerNumbers s) 4 (omega arith) (h .filled), field-of-bytes (writerNumbers s) 5 (omega arith) (h .entries), field-of-bytes (writerNumbers s) 6 (omega arith) (b4-small (s .warned)), field-of-bytes (writerNumbers s) 7 (omega arith) (h .rest), phase-of-number (s .phase), b4-of-number (s .warned))
+    rw (field-of-bytes (writerNumbers s) 0 (omega arith) (h .size), field-of-bytes (writerNumbers s) 1 (omega arith) (h .next), field-of-bytes (writerNumbers s) 2 (omega arith) (phase-meant (s .phase) .0), field-of-bytes (writerNumbers s) 3 (omega arith) (h .sum), field-of-bytes (writerNumbers s) 4 (omega arith) (h .filled), field-of-bytes (writerNumbers s) 5 (omega arith) (h .entries), field-of-bytes (writerNumbers s) 6 (omega arith) (b4-meant (s .warned) .0), field-of-bytes (writerNumbers s) 7 (omega arith) (h .rest), phase-of-number (s .phase), b4-of-number (s .warned))
+
+-- The phase and b4 of a state that was encoded have a meaning.
+pub meant-reader : (s : Reader) → readerMeant (readerBytes s) ≡ true
+unfolding readerMeant
+meant-reader s =
+    let p = phase-meant (s .phase) in
+    rw (field-of-bytes (readerNumbers s) 2 (omega arith) (p .0), p .1)
+
+pub meant-writer : (s : Writer) → writerMeant (writerBytes s) ≡ true
+unfolding writerMeant
+meant-writer s =
+    let p = phase-meant (s .phase) in
+    let b = b4-meant (s .warned) in
+    rw (field-of-bytes (writerNumbers s) 2 (omega arith) (p .0), field-of-bytes (writerNumbers s) 6 (omega arith) (b .0), p .1, b .1)
 
 -- A sound state's numbers have room in four bytes.
 pub sound-reader-fits : (s : Reader) → reader.sound s ≡ true → ReaderFits s

@@ -10,8 +10,12 @@ use Rattle.group.specs.declared.Phase.the-variants.{Free, Inside, Owed}
 use Rattle.numbers.specs.Numbers.{inBytes, field}
 use Rattle.reader.specs.declared.Reader.{Reader}
 use Rattle.laying.specs.declared.Writer.{Writer}
+use Rattle.states.specs.declared.Run.{Run}
 
--- A reader's state is four numbers, a writer's eight.
+-- A reader's state is four numbers, a writer's the same four and four more.
+abbrev pub runLength : ℕ
+runLength = 16
+
 abbrev pub readerLength : ℕ
 readerLength = 16
 
@@ -41,9 +45,13 @@ b4Set n = eqb n 1
 abbrev pub b4Meant : ℕ → Bool
 b4Meant n = leb n 1
 
--- A reader's state: size L, next number, phase, sum of parts.
+-- What both begin with: size L, next number, phase, sum of parts.
+abbrev pub runOf : List ℕ → Run
+runOf slice = record { size = field slice 0; next = field slice 1; phase = phaseOf (field slice 2); sum = field slice 3 }
+
+-- A reader's state: these four.
 unfoldable pub readerOf : List ℕ → Reader
-readerOf slice = record { size = field slice 0; next = field slice 1; phase = phaseOf (field slice 2); sum = field slice 3 }
+readerOf slice = record { size = runOf slice .size; next = runOf slice .next; phase = runOf slice .phase; sum = runOf slice .sum }
 
 abbrev pub readerNumbers : Reader → List ℕ
 readerNumbers s = s .size ∷ s .next ∷ phaseNumber (s .phase) ∷ s .sum ∷ []
@@ -55,11 +63,11 @@ readerBytes s = inBytes (readerNumbers s)
 unfoldable pub writerOf : List ℕ → Writer
 writerOf slice =
     record {
-      size = field slice 0;
-      next = field slice 1;
-      phase = phaseOf (field slice 2);
+      size = runOf slice .size;
+      next = runOf slice .next;
+      phase = runOf slice .phase;
       warned = b4Set (field slice 6);
-      sum = field slice 3;
+      sum = runOf slice .sum;
       rest = field slice 7;
       filled = field slice 4;
       entries = field slice 5;

@@ -5,12 +5,20 @@ ghost use mathlib.Core.Bool.{_&&_};
 ghost use Prim.Native.Nat.{_+_, _≤_};
 ghost use lib.ListN.{length};
 ghost use Rattle.numbers.specs.Store.{put};
-ghost use Rattle.numbers.specs.Numbers.{numberAt, bytesOf};
-ghost use Rattle.states.specs.States.{readerLength, writerLength, phaseNumber, phaseOf, b4Number, b4Meant};
-ghost use Rattle.states.specs.States.{readerOf, readerBytes, readerMeant, writerOf, writerBytes, writerMeant};
+ghost use Rattle.numbers.specs.Numbers.{numberAt, bytesOf, field};
+ghost use Rattle.states.specs.States.{runLength, readerLength, writerLength, phaseNumber, phaseOf, phaseMeant, b4Number, b4Meant};
+ghost use Rattle.states.specs.States.{runOf, readerOf, readerBytes, readerMeant, writerOf, writerBytes, writerMeant};
 use group::Phase;
 use laying::Writer;
 use reader::Reader;
+
+// The four numbers that both states begin with.
+pub struct Run {
+    pub size: u32,
+    pub next: u32,
+    pub phase: Phase,
+    pub sum: u32,
+}
 
 // The lengths of the state slices, in bytes.
 pub const READER_LENGTH: usize = 16;
@@ -45,12 +53,20 @@ fn b4_number(warned: bool) -> u32
     if warned { 1 } else { 0 }
 }
 
+// Whether the phase of a state's slice is a number that has a meaning.
+fn phase_meant(slice: &[u8]) -> bool
+    requires { ⌜ runLength ≤ length (now slice) ⌝ }
+    ensures { λ r. ⌜ r ≡ phaseMeant (field (now (slice .entry)) 2) ⌝ }
+{
+    numbers::number_at(slice, 8) <= 2
+}
+
 // Whether the phase of a reader's slice is a number that has a meaning.
 pub fn reader_meant(slice: &[u8]) -> bool
     requires { ⌜ length (now slice) ≡ readerLength ⌝ }
     ensures { λ r. ⌜ r ≡ readerMeant (now (slice .entry)) ⌝ }
 {
-    numbers::number_at(slice, 8) <= 2
+    phase_meant(slice)
 }
 
 // Whether the phase and b4 of a writer's slice, and a call's `warn`, are numbers that have a meaning.
@@ -58,7 +74,7 @@ pub fn writer_meant(slice: &[u8], warn: u32) -> bool
     requires { ⌜ length (now slice) ≡ writerLength ⌝ }
     ensures { λ r. ⌜ r ≡ (writerMeant (now (slice .entry)) && b4Meant warn) ⌝ }
 {
-    if numbers::number_at(slice, 8) > 2 {
+    if !phase_meant(slice) {
         return false;
     }
     if numbers::number_at(slice, 24) > 1 {
@@ -67,12 +83,12 @@ pub fn writer_meant(slice: &[u8], warn: u32) -> bool
     warn <= 1
 }
 
-// The state that a reader's slice holds, and that a writer's begins with.
-pub fn reader_of(slice: &[u8]) -> Reader
-    requires { ⌜ readerLength ≤ length (now slice) ⌝ }
-    ensures { λ r. ⌜ r ≡ readerOf (now (slice .entry)) ⌝ }
+// What a state's slice begins with, a reader's or a writer's.
+fn run_of(slice: &[u8]) -> Run
+    requires { ⌜ runLength ≤ length (now slice) ⌝ }
+    ensures { λ r. ⌜ r ≡ runOf (now (slice .entry)) ⌝ }
 {
-    Reader {
+    Run {
         size: numbers::number_at(slice, 0),
         next: numbers::number_at(slice, 4),
         phase: phase_of(numbers::number_at(slice, 8)),
@@ -80,10 +96,25 @@ pub fn reader_of(slice: &[u8]) -> Reader
     }
 }
 
-// A writer's state from its slice and what it has in common with a reader's.
-fn writer_behind(run: Reader, slice: &[u8]) -> Writer
+// The state that a reader's slice holds.
+pub fn reader_of(slice: &[u8]) -> Reader
+    requires { ⌜ length (now slice) ≡ readerLength ⌝ }
+    ensures { λ r. ⌜ r ≡ readerOf (now (slice .entry)) ⌝ }
+{
+    let run = run_of(slice);
+    let phase = run.phase;
+    Reader {
+        size: run.size,
+        next: run.next,
+        phase,
+        sum: run.sum,
+    }
+}
+
+// A writer's state from its slice and what that begins with.
+fn writer_behind(run: Run, slice: &[u8]) -> Writer
     requires { ⌜ length (now slice) ≡ writerLength ⌝ }
-    requires { ⌜ run ≡ readerOf (now slice) ⌝ }
+    requires { ⌜ run ≡ runOf (now slice) ⌝ }
     ensures { λ r. ⌜ r ≡ writerOf (now (slice .entry)) ⌝ }
 {
     let phase = run.phase;
@@ -104,7 +135,7 @@ pub fn writer_of(slice: &[u8]) -> Writer
     requires { ⌜ length (now slice) ≡ writerLength ⌝ }
     ensures { λ r. ⌜ r ≡ writerOf (now (slice .entry)) ⌝ }
 {
-    let run = reader_of(slice);
+    let run = run_of(slice);
     writer_behind(run, slice)
 }
 

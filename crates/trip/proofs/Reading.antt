@@ -3,13 +3,12 @@
 use mathlib.Core.Path.{_≡_, refl, sym, ap, _∙_, subst}
 use mathlib.Core.Bool.{true}
 use mathlib.Core.List.{List, [], _∷_}
-use Prim.Native.Nat.{ℕ, _*_, _/_, _^_, _≤_, _<_}
+use Prim.Native.Nat.{ℕ, _*_, _/_, _≤_}
 use native.Mathlib.Omega.{arith}
 use lib.ListN.{length}
-use Rattle.numbers.proofs.InBytes.{length-in-bytes, length-numbers, numbers-put, field-of-bytes}
+use Rattle.numbers.proofs.InBytes.{length-in-bytes, length-numbers, numbers-put}
 use Rattle.numbers.specs.Numbers.{numbersIn, inBytes}
-use Rattle.group.specs.declared.Phase.{Phase}
-use Rattle.group.specs.declared.Phase.the-variants.{Free, Inside, Owed}
+use Rattle.group.specs.declared.Phase.the-variants.{Free}
 use Rattle.group.specs.Sizes.{leastSize, standardSize, lastNumber}
 use Rattle.numbers.specs.Store.{put}
 use Rattle.numbers.proofs.Tests.{within}
@@ -25,9 +24,9 @@ use Rattle.layout.specs.Layout.{Image}
 use Rattle.layout.specs.Accepting.{Accepts, Lent, lentTo}
 use Rattle.reader.proofs.Accepted.{begun-at}
 use Rattle.slices.specs.Call.{Left, left, answerLength, lengthsKept, called}
-use Rattle.states.specs.States.{readerLength, phaseNumber, phaseMeant, readerOf, readerNumbers, readerMeant}
+use Rattle.states.specs.States.{readerLength, readerOf, readerNumbers}
 use Rattle.c_reader.specs.Calls.{ddsReaderStart, ddsRead}
-use Rattle.states.proofs.StateLaws.{reader-of-bytes, sound-reader-fits}
+use Rattle.states.proofs.StateLaws.{reader-of-bytes, meant-reader, sound-reader-fits}
 use Rattle.trip.specs.ThroughC.{Loan, LentC, numbersLent, AcceptsC}
 use Rattle.trip.proofs.SmallRows.{small-rows}
 
@@ -42,20 +41,6 @@ accepted s lent = left 0 (slice s ∷ lent) (inBytes (0 ∷ 0 ∷ 0 ∷ 0 ∷ 0 
 -- Slices of their lengths are let through.
 long-slice : (s : Reader) → length (slice s) ≡ readerLength
 long-slice s = length-in-bytes (readerNumbers s)
-
-meant-slice : (s : Reader) → readerMeant (slice s) ≡ true
-unfolding readerMeant
-meant-slice s = rw (field-of-bytes (readerNumbers s) 2 (omega arith) (small (s .phase))) (meant (s .phase))
-  where
-    small : (p : Phase) → phaseNumber p < 256 ^ 4
-    small Free = omega arith
-    small Inside = omega arith
-    small Owed = omega arith
-
-    meant : (p : Phase) → phaseMeant (phaseNumber p) ≡ true
-    meant Free = refl
-    meant Inside = refl
-    meant Owed = refl
 
 pub held-slice : (s : Reader) → sound s ≡ true → readerOf (slice s) ≡ s
 held-slice s h = reader-of-bytes s (sound-reader-fits s h)
@@ -83,14 +68,14 @@ read-through : (s t : Reader) (group : List ℕ) (number n : ℕ) (rows answer :
     readCall s group number n (length rows / 4) ≡ read.Accepted t →
     ddsRead (slice s) group number n rows answer ≡ accepted t (put rows 0 (inBytes (groupRows s group n)) ∷ [])
 unfolding ddsRead called
-read-through s t group number n rows answer h l e = rw (kept-lengths (slice s) answer (long-slice s) l, meant-slice s, held-slice s h, e)
+read-through s t group number n rows answer h l e = rw (kept-lengths (slice s) answer (long-slice s) l, meant-reader s, held-slice s h, e)
 
 -- A read of the bytes of a sound state that the reader refuses.
 pub refused-through : (s : Reader) (state : List ℕ) (g : Image) (rows answer : List ℕ) {refusal place : ℕ} → sound s ≡ true → slice s ≡ state → length answer ≡ answerLength →
     readCall s (g .bytes) (g .number) (g .entries) (length rows / 4) ≡ read.Refused s refusal place →
     ddsRead state (g .bytes) (g .number) (g .entries) rows answer ≡ left refusal (state ∷ rows ∷ []) (inBytes (refusal ∷ place ∷ 0 ∷ 0 ∷ 0 ∷ 0 ∷ []))
 unfolding ddsRead called
-refused-through s state g rows answer h is l e = rw (← is, kept-lengths (slice s) answer (long-slice s) l, meant-slice s, held-slice s h, e)
+refused-through s state g rows answer h is l e = rw (← is, kept-lengths (slice s) answer (long-slice s) l, meant-reader s, held-slice s h, e)
 
 pub enough-lent : {run : List Image} {loans : List Loan} → LentC run loans → Lent run (numbersLent loans)
 enough-lent LentC.lent-none = Lent.lent-none

@@ -4,7 +4,7 @@ use mathlib.Core.Path.{_≡_, refl, sym, ap, _∙_, subst}
 use mathlib.Core.Logic.{_⊎_, inl, inr}
 use mathlib.Core.Bool.{Bool, true, false, cond}
 use mathlib.Core.List.{List, [], _∷_, _++_}
-use Prim.Native.Nat.{ℕ, _^_, _<_}
+use Prim.Native.Nat.{ℕ}
 use native.Mathlib.Omega.{arith}
 use lib.Dec.{eqb}
 use lib.ListN.{length, getD}
@@ -13,7 +13,7 @@ use Rattle.laying.specs.Start.{freshState, writerStartCall}
 use Rattle.numbers.proofs.InBytes.{length-in-bytes, field-of-bytes}
 use Rattle.numbers.specs.Numbers.{inBytes, field}
 use Rattle.group.specs.declared.Phase.{Phase}
-use Rattle.group.specs.declared.Phase.the-variants.{Free, Inside, Owed}
+use Rattle.group.specs.declared.Phase.the-variants.{Free}
 use Rattle.group.specs.Sizes.{informationLength}
 use Rattle.laying.specs.declared.Writer.{Writer}
 use Rattle.laying.specs.declared.WriterStart.{WriterStart}
@@ -30,31 +30,14 @@ use Rattle.layout.specs.Writing.{Account, noted, AsAsked, imageOf, Wrote}
 use Rattle.answer.specs.Answer.{numbersTold, refusalTold, ifAccepted}
 use Rattle.slices.specs.Call.{Left, left, answerLength, lengthsKept, ofMeaning, called}
 use Rattle.slices.proofs.Calls.{let-through, leaves, c-answers, refused-leaves}
-use Rattle.states.specs.States.{writerLength, phaseNumber, phaseMeant, b4Number, b4Meant, writerOf, writerNumbers, writerBytes, writerMeant}
+use Rattle.states.specs.States.{writerLength, b4Number, writerOf, writerNumbers, writerBytes, writerMeant}
 use Rattle.c_writer.specs.Calls.{ddsWriterStart, written, writing, ddsRecord, ddsSeparator, ddsEnd, writerLeft, groupLeft}
 use Rattle.c_writer.specs.Accepted.{Accepts, CallAccepted}
 use Rattle.c_writer.proofs.Theorems.{record-returns-zero, separator-returns-zero, end-returns-zero}
-use Rattle.states.proofs.StateLaws.{writer-of-bytes, sound-writer-fits}
+use Rattle.states.proofs.StateLaws.{writer-of-bytes, meant-writer, sound-writer-fits}
 use Rattle.trip.specs.ThroughC.{callC, CallC, recordC, separatorC, endC, askedC, phaseSeen, outcomeSeen, numberSeen, entriesSeen, finishedSeen, closedSeen, WroteC, WasEndedC}
 use Rattle.trip.specs.Stated.{Written}
 use Rattle.trip.proofs.Told.{Tells, TellsStart, call-tells, start-tells}
-
--- A state slice that was encoded has its length, and its phase and b4 have a meaning.
-phase-meant : (p : Phase) → (phaseNumber p < 256 ^ 4) × (phaseMeant (phaseNumber p) ≡ true)
-phase-meant Free = (omega arith, refl)
-phase-meant Inside = (omega arith, refl)
-phase-meant Owed = (omega arith, refl)
-
-b4-meant : (b : Bool) → (b4Number b < 256 ^ 4) × (b4Meant (b4Number b) ≡ true)
-b4-meant false = (omega arith, refl)
-b4-meant true = (omega arith, refl)
-
-encoded-meant : (s : Writer) → writerMeant (inBytes (writerNumbers s)) ≡ true
-unfolding writerMeant
-encoded-meant s =
-    let p = phase-meant (s .phase) in
-    let b = b4-meant (s .warned) in
-    rw (field-of-bytes (writerNumbers s) 2 (omega arith) (p .0), field-of-bytes (writerNumbers s) 6 (omega arith) (b .0), p .1, b .1)
 
 -- What the writer's own call leaves, once it is made.
 abbrev own : Done → (state group : List ℕ) → Left
@@ -189,7 +172,7 @@ module _ {size first : ℕ} {state group : List ℕ} {run : List Image} {closed 
   held-long = ap length (sym (x .bytes)) ∙ length-in-bytes (writerNumbers (writerOf state))
 
   held-meant : writerMeant state ≡ true
-  held-meant = ap writerMeant (sym (x .bytes)) ∙ encoded-meant (writerOf state)
+  held-meant = ap writerMeant (sym (x .bytes)) ∙ meant-writer (writerOf state)
 
   held-way : (c : Call) (answer : List ℕ) {o : Left} → callC c state group answer ≡ o → Way (call c (desk (writerOf state) group)) state group answer o
   held-way c answer e = subst (λ (o : Left). Way (call c (desk (writerOf state) group)) state group answer o) e (way c state group answer held-long held-meant)

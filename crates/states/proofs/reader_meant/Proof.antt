@@ -1,8 +1,6 @@
 -- `reader_meant` meets its contract. Assumes nothing.
 use borrow.Author.Needs.{needs}
-use mathlib.Core.Path.{ap}
-use Prim.Native.Nat.{ℕ}
-use Rattle.states.specs.States.{phaseMeant, readerMeant}
+use Rattle.states.specs.States.{readerMeant}
 use Rattle.states.proofs.reader_meant.Statement.{statement}
 use Rattle.states.proofs.reader_meant.Tie as tie
 
@@ -12,4 +10,4 @@ reader-meant-spec =
     tie.close
     (tie.spec
     (λ c κs. search needs)
-    (λ c. ap (λ (n : ℕ). phaseMeant n) (c .number-at .ensures)))
+    (λ c. c .phase-meant .ensures))

@@ -10,8 +10,4 @@ reader-of-spec =
     tie.close
     (tie.spec
     (λ c κs. search needs)
-    (λ c κs. search needs)
-    (λ c κs. search needs)
-    (λ c κs. search needs)
-    (λ c κs. search needs)
-    (λ c. rw (c .before .phase-of .ensures, c .before .before .before .before .number-at .ensures, c .before .before .before .number-at2 .ensures, c .before .before .number-at3 .ensures, c .number-at4 .ensures)))
+    (λ c. rw (c .run-of .ensures)))

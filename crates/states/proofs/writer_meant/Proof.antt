@@ -1,6 +1,7 @@
 -- `writer_meant` meets its contract: the tests of the definition, in its order. Assumes nothing.
 use borrow.Author.Needs.{needs}
 use native.Mathlib.Omega.{arith}
+use Rattle.numbers.proofs.Tests.{fails, holds}
 use Rattle.states.proofs.NumberLaws.{phase-unmeant, b4-unmeant, warn-meant}
 use Rattle.states.proofs.writer_meant.Statement.{statement}
 use Rattle.states.proofs.writer_meant.Tie as tie
@@ -10,7 +11,11 @@ writer-meant-spec =
     tie.close
     (tie.spec
     (λ c κs. search needs)
-    (λ c. phase-unmeant (c .before .before .before .args .slice .now) (c .before .before .before .args .warn) (omega (arith, c .before .number-at .ensures)))
+    (λ c. phase-unmeant _ (c .before .before .before .args .warn) (fails (c .before .phase-meant .ensures) (c .if1 .taken)))
     (λ c κs. search needs)
-    (λ c. b4-unmeant (c .before .before .before .before .before .args .slice .now) (c .before .before .before .before .before .args .warn) (omega (arith, c .before .before .before .number-at .ensures)) (omega (arith, c .before .number-at2 .ensures)))
-    (λ c. warn-meant (c .before .before .before .before .before .args .slice .now) (c .before .before .before .before .before .args .warn) (omega (arith, c .before .before .before .number-at .ensures)) (omega (arith, c .before .number-at2 .ensures))))
+    (λ c.
+    let d = c .before .before in
+    b4-unmeant _ (d .before .before .before .args .warn) (holds (d .before .phase-meant .ensures) (d .if1 .left)) (omega (arith, c .before .number-at .ensures)))
+    (λ c.
+    let d = c .before .before in
+    warn-meant _ (d .before .before .before .args .warn) (holds (d .before .phase-meant .ensures) (d .if1 .left)) (omega (arith, c .before .number-at .ensures))))
