@@ -24,7 +24,7 @@ pub fn start(size: u32, first: u32, state: &mut [u8], answer: &mut [u8]) -> u32
     let start = Reader::start(size, first);
     match start {
         ReaderStart::Started(reader) => {
-            states::begin_reader(state, reader);
+            storing::begin_reader(state, reader);
             slices::tell(answer, Told::Accepted(0, 0, 0, 0))
         }
         ReaderStart::Refused(refusal) => slices::tell(answer, Told::RefusedAt(refusal, 0)),
@@ -40,7 +40,7 @@ fn finish(state: &mut [u8], answer: &mut [u8], done: ReadAnswer) -> u32
 {
     match done {
         ReadAnswer::Accepted(reader) => {
-            states::put_next(state, reader);
+            storing::put_next(state, reader);
             slices::tell(answer, Told::Accepted(0, 0, 0, 0))
         }
         ReadAnswer::Refused {

@@ -23,7 +23,7 @@ pub fn start(size: u32, first: u32, state: &mut [u8], answer: &mut [u8]) -> u32
     let start = Writer::start(size, first);
     match start {
         WriterStart::Started(writer) => {
-            states::begin_writer(state, writer);
+            storing::begin_writer(state, writer);
             slices::tell(answer, Told::Accepted(0, 0, 0, 0))
         }
         WriterStart::Refused(refusal) => slices::tell(answer, Told::RefusedAt(refusal, 0)),
@@ -52,7 +52,7 @@ fn finish(state: &mut [u8], answer: &mut [u8], done: WriteAnswer) -> u32
 {
     match done {
         WriteAnswer::Finished(writer) => {
-            states::put_writer(state, writer);
+            storing::put_writer(state, writer);
             slices::tell(answer, Told::Accepted(0, 0, 0, 0))
         }
         WriteAnswer::Closed {
@@ -61,7 +61,7 @@ fn finish(state: &mut [u8], answer: &mut [u8], done: WriteAnswer) -> u32
             entries,
             taken,
         } => {
-            states::put_writer(state, writer);
+            storing::put_writer(state, writer);
             slices::tell(answer, Told::Accepted(1, number, entries, taken))
         }
         WriteAnswer::Refused { state: _, refusal } => {

@@ -11,7 +11,7 @@ use Rattle.group.specs.Flags.{meaningOf}
 use Rattle.group.specs.State.{runSound, startRefusal}
 use Rattle.entry.specs.Rules.{mayFollow, entryFault}
 use Rattle.entry.specs.Scan.{scan}
-use Rattle.reader.specs.Rows.{rowsFrom}
+use Rattle.rows.specs.Rows.{rowsFrom}
 use Rattle.reader.specs.Answer.{readerStartCall, readRefusal, groupScan, readCall, groupRows}
 use Rattle.sound.specs.State.{roomKept, emptyKept, restKept, dataKept, clearKept, spentKept, writerSound, recordRefusal, separatorRefusal, endRefusal}
 use Rattle.laying.specs.Room.{room, fitOf}

@@ -14,7 +14,7 @@ use Rattle.group.specs.Entries.{entriesBelow, tableBytes}
 use Rattle.group.proofs.FlagLaws.{meaning-of-flag}
 use Rattle.group.proofs.EntryLaws.{Small, length-table, entries-of-table}
 use Rattle.entry.specs.Rules.{reachedAfter}
-use Rattle.reader.specs.Rows.{rowsFrom}
+use Rattle.rows.specs.Rows.{rowsFrom}
 use Rattle.layout.specs.Items.{Piece, Each}
 use Rattle.layout.specs.Items.Each.{each-none, each-more}
 use Rattle.layout.specs.Items.Piece.{aTotal, aSeparator, aMiddle, aStart, aLast, anEntire}

@@ -11,12 +11,12 @@ use Rattle.group.specs.Entries.{entriesBelow}
 use Rattle.numbers.proofs.Tests.{within}
 use Rattle.numbers.proofs.Stores.{put-stands}
 use Rattle.group.proofs.EntryLaws.{length-entries}
-use Rattle.reader.proofs.Filling.{length-rows}
+use Rattle.rows.proofs.Filling.{length-rows}
 use Rattle.reader.specs.declared.Reader.{Reader}
 use Rattle.entry.specs.declared.Stand.{Stand}
 use Rattle.reader.specs.declared.ReadAnswer.{ReadAnswer}
 use Rattle.reader.specs.declared.ReadAnswer.the-variants as answer
-use Rattle.reader.specs.Rows.{rowsFrom}
+use Rattle.rows.specs.Rows.{rowsFrom}
 use Rattle.reader.specs.Answer.{fresh, readCall, groupRows, rowsLeft}
 use Rattle.reader.proofs.Accepted.{accepted}
 use Rattle.layout.specs.Items.{Item, Piece, grouped, tokens}

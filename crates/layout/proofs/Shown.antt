@@ -22,7 +22,7 @@ use Rattle.reader.specs.declared.Reader.{Reader}
 use Rattle.reader.specs.declared.ReaderStart.the-variants as start
 use Rattle.entry.specs.Rules.{mayFollow, entryFault}
 use Rattle.entry.specs.Scan.{scan}
-use Rattle.reader.specs.Rows.{rowsFrom}
+use Rattle.rows.specs.Rows.{rowsFrom}
 use Rattle.reader.specs.Answer.{fresh, readerStartCall, readRefusal, readCall, groupScan, groupRows}
 use Rattle.layout.specs.Items.{Laid, Tail, Piece, Each, SoundLaid, SoundTail, items, soFar, tokens, tailTokens, middles, lateBy, grouped, joined, wholeOf}
 use Rattle.layout.specs.Items.Each.{each-none, each-more}

@@ -1,7 +1,7 @@
 -- The laws that the proofs of this crate share, and those that the crates above cite.
 pub mod Refusals
 pub mod Accepted
-pub mod Filling
+pub mod GroupRows
 pub mod Sound
 pub mod Settled
 pub mod Refused

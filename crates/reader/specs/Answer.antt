@@ -24,7 +24,7 @@ use Rattle.reader.specs.declared.ReadAnswer.{ReadAnswer}
 use Rattle.reader.specs.declared.ReadAnswer.the-variants as answer
 use Rattle.entry.specs.Rules.{standAt, phaseAfter}
 use Rattle.entry.specs.Scan.{scan}
-use Rattle.reader.specs.Rows.{rowsFrom}
+use Rattle.rows.specs.Rows.{rowsFrom}
 
 -- "A reader starts with L and the first number."
 abbrev pub fresh : ℕ → ℕ → Reader

@@ -1,8 +1,6 @@
 // Reads Basic Groups: document 01, "Reading". A start, a read with its rows, and a read's judgement without them. None of them
 // requires anything: what may not be is refused with a number and a place.
 mod ends;
-mod row_bytes;
-mod rows;
 
 ghost use mathlib.Core.Path.{_≡_};
 ghost use Prim.Native.Nat.{_/_};
@@ -147,7 +145,7 @@ impl Reader {
         match answer {
             ReadAnswer::Accepted(_) => {
                 let size = group.len() as u32;
-                row_bytes::fill_bytes(&flags, group, size, entries, rows);
+                rows::bytes::fill_bytes(&flags, group, size, entries, rows);
                 answer
             }
             ReadAnswer::Refused {

@@ -8,7 +8,7 @@ use native.Mathlib.Omega.{arith}
 use lib.ListN.{length, take}
 use Rattle.numbers.specs.Store.{put}
 use Rattle.numbers.proofs.Stores.{put-stands}
-use Rattle.reader.proofs.Filling.{length-group-rows}
+use Rattle.reader.proofs.GroupRows.{length-group-rows}
 use Rattle.reader.specs.declared.Reader.{Reader}
 use Rattle.reader.specs.declared.ReaderStart.{ReaderStart}
 use Rattle.reader.specs.declared.ReadAnswer.{ReadAnswer}

@@ -17,7 +17,7 @@ use Rattle.group.specs.Flags.{meaningOf}
 use Rattle.group.specs.State.{runSound, startRefusal}
 use Rattle.entry.specs.Rules.{mayFollow, entryFault}
 use Rattle.entry.specs.Scan.{scan}
-use Rattle.reader.specs.Rows.{rowsFrom}
+use Rattle.rows.specs.Rows.{rowsFrom}
 use Rattle.reader.specs.declared.Reader.{Reader}
 use Rattle.reader.specs.declared.ReadAnswer.the-variants as answer
 use Rattle.reader.specs.Answer.{readerStartCall, sound, lengthKept, nextIs, rowsFit, readRefusal, answered, groupScan, readCall, groupRows}

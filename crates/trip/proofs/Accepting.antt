@@ -24,7 +24,7 @@ use Rattle.c_reader.proofs.Theorems.{start-returns-zero, read-returns-zero, rea
 use Rattle.trip.specs.ThroughC.{Loan, LentC, numbersLent, AcceptsC}
 use Rattle.trip.specs.Stated.{AcceptedC, AcceptsOwn, SplitC}
 use Rattle.trip.proofs.SmallRows.{small-rows}
-use Rattle.reader.proofs.Filling.{length-group-rows}
+use Rattle.reader.proofs.GroupRows.{length-group-rows}
 use Rattle.trip.proofs.Reading.{slice, held-slice, starts-through, sound-fresh}
 use Rattle.trip.proofs.Settled.{start-lent, lent-enough}
 

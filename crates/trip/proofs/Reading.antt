@@ -13,7 +13,7 @@ use Rattle.group.specs.Sizes.{leastSize, standardSize, lastNumber}
 use Rattle.numbers.specs.Store.{put}
 use Rattle.numbers.proofs.Tests.{within}
 use Rattle.group.proofs.StateLaws.{Run, started, sound-of-run}
-use Rattle.reader.proofs.Filling.{length-group-rows}
+use Rattle.reader.proofs.GroupRows.{length-group-rows}
 use Rattle.reader.specs.declared.Reader.{Reader}
 use Rattle.reader.specs.declared.ReaderStart.the-variants as start
 use Rattle.reader.specs.declared.ReadAnswer.{ReadAnswer}

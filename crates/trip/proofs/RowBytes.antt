@@ -13,7 +13,7 @@ use Rattle.reader.specs.declared.Reader.{Reader}
 use Rattle.reader.specs.declared.ReadAnswer.the-variants as answer
 use Rattle.reader.specs.Answer.{readCall, groupRows, asNumbers, Reads}
 use Rattle.reader.proofs.Accepted.{accepted}
-use Rattle.reader.proofs.Filling.{length-group-rows}
+use Rattle.reader.proofs.GroupRows.{length-group-rows}
 use Rattle.twice.specs.RowsAre.{RowsAre}
 use Rattle.twice.proofs.Theorems.{rows-are}
 use Rattle.trip.proofs.SmallRows.{small-rows}

@@ -21,7 +21,7 @@ use Rattle.entry.specs.declared.ScanEnd.the-variants.{Reached}
 use Rattle.reader.specs.declared.ReadAnswer.the-variants as answer
 use Rattle.entry.specs.Rules.{entryFault, skipKept}
 use Rattle.entry.specs.Scan.{after, isLast, scan, reachedBy}
-use Rattle.reader.specs.Rows.{rowKind, rowsFrom}
+use Rattle.rows.specs.Rows.{rowKind, rowsFrom}
 use Rattle.entry.specs.Bounds.{Bounded}
 use Rattle.reader.specs.Answer.{opening, groupScan, groupRows, readCall}
 use Rattle.entry.proofs.Counts.{CountKept}

@@ -18,10 +18,10 @@ use Rattle.group.specs.Flags.{kindNumber, flagOf, kinds, meaningAmong, meaningO
 use Rattle.group.specs.Entries.{entryAt, entriesBelow}
 use Rattle.group.proofs.EntryLaws.{length-entries}
 use Rattle.entry.specs.Scan.{reachedBy}
-use Rattle.reader.proofs.Filling.{length-rows}
+use Rattle.rows.proofs.Filling.{length-rows}
 use Rattle.reader.specs.declared.Reader.{Reader}
 use Rattle.reader.specs.declared.ReadAnswer.the-variants as answer
-use Rattle.reader.specs.Rows.{rowsFrom, rowKind}
+use Rattle.rows.specs.Rows.{rowsFrom, rowKind}
 use Rattle.reader.specs.Answer.{groupRows, asNumbers, Reads}
 use Rattle.reader.proofs.Accepted.{accepted}
 use Rattle.twice.specs.RowsAre.{kindAmong, kindIs, dataOf, dataIs, entryOf, dataTo, RowsAre}

@@ -11,10 +11,10 @@ use Rattle.numbers.specs.Store.{put}
 use Rattle.group.specs.Entries.{entryAt}
 use Rattle.group.specs.Flags.{meaningOf}
 use Rattle.entry.specs.Scan.{reachedBy}
-use Rattle.reader.specs.Rows.{rowKind}
-use Rattle.reader.proofs.Filling.{row-kind}
-use Rattle.reader.proofs.row_bytes.put_row.Statement.{statement}
-use Rattle.reader.proofs.row_bytes.put_row.Tie as tie
+use Rattle.rows.specs.Rows.{rowKind}
+use Rattle.rows.proofs.Filling.{row-kind}
+use Rattle.rows.proofs.bytes.put_row.Statement.{statement}
+use Rattle.rows.proofs.bytes.put_row.Tie as tie
 
 -- The byte at an entry's place is its flag.
 flag-is : (s : List ℕ) (at : ℕ) → getD s at 0 ≡ entryAt s at .flag

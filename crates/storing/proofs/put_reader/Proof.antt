@@ -4,8 +4,8 @@ use mathlib.Core.Path.{sym}
 use Prim.Native.Nat.{_<_, _^_}
 use native.Mathlib.Omega.{arith}
 use Rattle.numbers.proofs.NumberLaws.{number-put}
-use Rattle.states.proofs.put_reader.Statement.{statement}
-use Rattle.states.proofs.put_reader.Tie as tie
+use Rattle.storing.proofs.put_reader.Statement.{statement}
+use Rattle.storing.proofs.put_reader.Tie as tie
 
 put-next-requires : tie.Need-put-next-requires
 put-next-requires c κs =

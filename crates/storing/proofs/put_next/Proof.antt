@@ -5,9 +5,9 @@ use mathlib.Core.List.{List, [], _∷_}
 use Prim.Native.Nat.{ℕ}
 use native.Mathlib.Omega.{arith}
 use Rattle.numbers.proofs.InBytes.{puts, puts-whole, put-standing}
 use Rattle.states.specs.States.{phaseNumber, readerNumbers}
-use Rattle.states.proofs.put_next.Statement.{statement}
-use Rattle.states.proofs.put_next.Tie as tie
+use Rattle.storing.proofs.put_next.Statement.{statement}
+use Rattle.storing.proofs.put_next.Tie as tie
 
 returns : tie.Need-returns
 returns c =

@@ -14,17 +14,14 @@ use Rattle.group.specs.declared.Entry.{Entry}
 use Rattle.group.specs.declared.Kind.{Kind}
 use Rattle.group.specs.declared.Meaning.{Meaning}
 use Rattle.group.specs.declared.Meaning.the-variants.{Known, Unknown}
-use Rattle.group.specs.Sizes.{informationLength, entryOffset}
+use Rattle.group.specs.Sizes.{entryOffset}
 use Rattle.group.specs.Entries.{entryAt, entriesBelow}
 use Rattle.group.specs.Flags.{meaningOf}
 use Rattle.group.specs.Coded.{codeOf, Below}
 use Rattle.group.proofs.FlagLaws.{each}
-use Rattle.group.proofs.EntryLaws.{length-entries}
 use Rattle.entry.specs.Scan.{reachedBy}
 use Rattle.entry.specs.Bounds.{Within}
-use Rattle.reader.specs.declared.Reader.{Reader}
-use Rattle.reader.specs.Rows.{rowKind, rowsFrom}
-use Rattle.reader.specs.Answer.{groupRows}
+use Rattle.rows.specs.Rows.{rowKind, rowsFrom}
 
 -- One turn of the rows, and of the bound on the data.
 pub row-turn : (group : List ℕ) (top left reached : ℕ) (e : Entry) (kind next : ℕ) → 0 < left → e ≡ entryAt group (top - 4)
@@ -97,8 +94,3 @@ pub length-rows : (reached : ℕ) (es : List Entry) → length (rowsFrom reached
 unfolding rowsFrom
 length-rows reached [] = refl
 length-rows reached (e ∷ es) = omega (arith, length-rows (reachedBy (meaningOf (e .flag)) reached (e .count)) es)
-
-pub length-group-rows : (s : Reader) (group : List ℕ) (n : ℕ) → length (groupRows s group n) ≡ 3 * n
-unfolding groupRows
-length-group-rows s group n =
-    omega (arith, length-rows 0 (entriesBelow group (s .size - informationLength) n), length-entries group (s .size - informationLength) n)

@@ -8,9 +8,9 @@ use Rattle.group.specs.Sizes.{entryOffset}
 use Rattle.numbers.specs.Store.{put}
 use Rattle.group.specs.Flags.{meaningOf}
 use Rattle.numbers.proofs.Stores.{put-three, put-put}
-use Rattle.reader.proofs.Filling.{row-kind, Filled, filled-turn, filled-reach, filled-done}
-use Rattle.reader.proofs.rows.fill.Statement.{statement}
-use Rattle.reader.proofs.rows.fill.Tie as tie
+use Rattle.rows.proofs.Filling.{row-kind, Filled, filled-turn, filled-reach, filled-done}
+use Rattle.rows.proofs.fill.Statement.{statement}
+use Rattle.rows.proofs.fill.Tie as tie
 
 -- Where the loop stands among the numbers.
 record Counts (size entries room top left i : ℕ) : Type 0 where

@@ -11,7 +11,7 @@ ghost use Rattle.group.specs.Flags.{meaningOf};
 ghost use Rattle.group.specs.Coded.{flagTable};
 ghost use Rattle.entry.specs.Scan.{reachedBy};
 ghost use Rattle.entry.specs.Bounds.{Cut, Within};
-ghost use Rattle.reader.specs.Rows.{rowKind, rowsFrom};
+ghost use Rattle.rows.specs.Rows.{rowKind, rowsFrom};
 use entry::rules;
 use group::Group;
 
@@ -40,13 +40,7 @@ fn put_row(
 }
 
 // The same numbers as bytes, twelve an entry.
-pub(crate) fn fill_bytes(
-    flags: &[[u8; 16]; 16],
-    group: &[u8],
-    size: u32,
-    entries: u32,
-    rows: &mut [u8],
-)
+pub fn fill_bytes(flags: &[[u8; 16]; 16], group: &[u8], size: u32, entries: u32, rows: &mut [u8])
     requires { ⌜ now flags ≡ flagTable ⌝ }
     requires { ⌜ Cut (now group) size entries ⌝ }
     requires { ⌜ Within (entryOffset size entries) 0 (entriesBelow (now group) (size - informationLength) entries) ⌝ }

@@ -1,7 +1,7 @@
 -- `begin_reader` meets its contract: zeros, and the state over them. Assumes nothing.
 use borrow.Author.Needs.{needs}
-use Rattle.states.proofs.begin_reader.Statement.{statement}
-use Rattle.states.proofs.begin_reader.Tie as tie
+use Rattle.storing.proofs.begin_reader.Statement.{statement}
+use Rattle.storing.proofs.begin_reader.Tie as tie
 
 pub begin-reader-spec : {M : Type 1} → statement M
 begin-reader-spec =

@@ -1,4 +1,7 @@
-// The rows of a group whose scan has passed.
+// The rows of a group whose scan has passed: document 01, "Reading". As numbers here, as bytes in `bytes`. The leaves here have a
+// `requires`, on a group that the scan above has passed and on the rows' length.
+pub mod bytes;
+
 ghost use mathlib.Core.Path.{_≡_};
 ghost use Prim.Native.Nat.{_*_, _-_, _≤_};
 ghost use lib.ListN.{length};
@@ -7,12 +10,12 @@ ghost use Rattle.numbers.specs.Store.{put};
 ghost use Rattle.group.specs.Entries.{entriesBelow};
 ghost use Rattle.group.specs.Coded.{flagTable};
 ghost use Rattle.entry.specs.Bounds.{Cut, Within};
-ghost use Rattle.reader.specs.Rows.{rowsFrom};
+ghost use Rattle.rows.specs.Rows.{rowsFrom};
 use entry::rules;
 use group::Group;
 
 // Three numbers an entry, from the table's top downward.
-pub(crate) fn fill(flags: &[[u8; 16]; 16], group: &[u8], size: u32, entries: u32, rows: &mut [u32])
+pub fn fill(flags: &[[u8; 16]; 16], group: &[u8], size: u32, entries: u32, rows: &mut [u32])
     requires { ⌜ now flags ≡ flagTable ⌝ }
     requires { ⌜ Cut (now group) size entries ⌝ }
     requires { ⌜ Within (entryOffset size entries) 0 (entriesBelow (now group) (size - informationLength) entries) ⌝ }

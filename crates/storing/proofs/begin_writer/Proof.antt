@@ -1,7 +1,7 @@
 -- `begin_writer` meets its contract: zeros, and the state over them. Assumes nothing.
 use borrow.Author.Needs.{needs}
-use Rattle.states.proofs.begin_writer.Statement.{statement}
-use Rattle.states.proofs.begin_writer.Tie as tie
+use Rattle.storing.proofs.begin_writer.Statement.{statement}
+use Rattle.storing.proofs.begin_writer.Tie as tie
 
 pub begin-writer-spec : {M : Type 1} → statement M
 begin-writer-spec =

@@ -3,8 +3,8 @@ use borrow.Author.Needs.{needs}
 use mathlib.Core.Path.{sym, _∙_}
 use native.Mathlib.Omega.{arith}
 use Rattle.numbers.proofs.InBytes.{put-standing}
-use Rattle.states.proofs.keep.Statement.{statement}
-use Rattle.states.proofs.keep.Tie as tie
+use Rattle.storing.proofs.keep.Statement.{statement}
+use Rattle.storing.proofs.keep.Tie as tie
 
 standing : tie.Need-returns-2
 standing c =

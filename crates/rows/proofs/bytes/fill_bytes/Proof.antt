@@ -8,9 +8,9 @@ use Rattle.numbers.proofs.InBytes.{put-more}
 use Rattle.numbers.specs.Numbers.{inBytes}
 use Rattle.group.specs.Sizes.{entryOffset}
 use Rattle.numbers.specs.Store.{put}
-use Rattle.reader.proofs.Filling.{Filled, filled-turn, filled-reach, filled-done}
-use Rattle.reader.proofs.row_bytes.fill_bytes.Statement.{statement}
-use Rattle.reader.proofs.row_bytes.fill_bytes.Tie as tie
+use Rattle.rows.proofs.Filling.{Filled, filled-turn, filled-reach, filled-done}
+use Rattle.rows.proofs.bytes.fill_bytes.Statement.{statement}
+use Rattle.rows.proofs.bytes.fill_bytes.Tie as tie
 
 -- Where the loop stands among the numbers.
 record Counts (size entries room top left i : ℕ) : Type 0 where

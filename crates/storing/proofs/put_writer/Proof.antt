@@ -1,9 +1,9 @@
 -- `put_writer` meets its contract: eight numbers, one after another. Assumes nothing.
 use borrow.Author.Needs.{needs}
 use Rattle.numbers.proofs.InBytes.{puts-whole}
 use Rattle.states.specs.States.{writerNumbers}
-use Rattle.states.proofs.put_writer.Statement.{statement}
-use Rattle.states.proofs.put_writer.Tie as tie
+use Rattle.storing.proofs.put_writer.Statement.{statement}
+use Rattle.storing.proofs.put_writer.Tie as tie
 
 returns : tie.Need-returns
 returns c =
