@@ -87,8 +87,9 @@ static num sum_after(num sum, num kind, num count)
 
 /* ---- The states */
 
-typedef struct { num size, next, phase, sum; } reader;
-typedef struct { reader r; num d, e, b4, rest; } writer;
+typedef struct { num size, next, phase, sum; } run; /* what both begin with */
+typedef struct { run r; } reader;
+typedef struct { run r; num d, e, b4, rest; } writer;
 
 static int sum_sound(num phase, num sum)
 {
@@ -100,14 +101,19 @@ static int sum_sound(num phase, num sum)
     return 0; /* a phase that has no meaning */
 }
 
-static int reader_sound(const reader *r)
+static int run_sound(const run *r)
 {
     return size_in_range(r->size) && r->next >= 1 && r->next <= LAST_NUMBER + 1 && sum_sound(r->phase, r->sum);
 }
 
+static int reader_sound(const reader *r)
+{
+    return run_sound(&r->r);
+}
+
 static int writer_sound(const writer *w)
 {
-    if (!reader_sound(&w->r)) return 0;
+    if (!run_sound(&w->r)) return 0;
     if (w->b4 > 1) return 0;
     if (w->r.phase == FREE && w->d + 32 + 4 * (w->e + 1) > w->r.size) return 0;
     if (w->r.phase != FREE && (w->d != 0 || w->e != 0)) return 0;
@@ -131,28 +137,40 @@ static void put(uint8_t *p, num n)
     p[3] = (uint8_t)n;
 }
 
+static run get_run(const uint8_t *s)
+{
+    run r;
+    r.size = get(s); r.next = get(s + 4); r.phase = get(s + 8); r.sum = get(s + 12);
+    return r;
+}
+
+static void put_run(uint8_t *s, const run *r)
+{
+    put(s, r->size); put(s + 4, r->next); put(s + 8, r->phase); put(s + 12, r->sum);
+}
+
 static reader get_reader(const uint8_t *s)
 {
     reader r;
-    r.size = get(s); r.next = get(s + 4); r.phase = get(s + 8); r.sum = get(s + 12);
+    r.r = get_run(s);
     return r;
 }
 
 static void put_reader(uint8_t *s, const reader *r)
 {
-    put(s, r->size); put(s + 4, r->next); put(s + 8, r->phase); put(s + 12, r->sum);
+    put_run(s, &r->r);
 }
 
 static writer get_writer(const uint8_t *s)
 {
     writer w;
-    w.r = get_reader(s); w.d = get(s + 16); w.e = get(s + 20); w.b4 = get(s + 24); w.rest = get(s + 28);
+    w.r = get_run(s); w.d = get(s + 16); w.e = get(s + 20); w.b4 = get(s + 24); w.rest = get(s + 28);
     return w;
 }
 
 static void put_writer(uint8_t *s, const writer *w)
 {
-    put_reader(s, &w->r); put(s + 16, w->d); put(s + 20, w->e); put(s + 24, w->b4); put(s + 28, w->rest);
+    put_run(s, &w->r); put(s + 16, w->d); put(s + 20, w->e); put(s + 24, w->b4); put(s + 28, w->rest);
 }
 
 static uint32_t answers(uint8_t *answer, num refusal, num place, num outcome, num number, num entries, num taken)
@@ -174,9 +192,9 @@ static num start_refusal(num size, num first)
     return 0;
 }
 
-static reader fresh(num size, num first)
+static run fresh(num size, num first)
 {
-    reader r;
+    run r;
     r.size = size; r.next = first; r.phase = FREE; r.sum = 0;
     return r;
 }
@@ -184,7 +202,8 @@ static reader fresh(num size, num first)
 uint32_t MODEL(reader_start)(uint32_t size, uint32_t first, uint8_t *state, size_t state_len, uint8_t *answer,
                              size_t answer_len)
 {
-    reader r = fresh(size, first);
+    reader r;
+    r.r = fresh(size, first);
     if (state_len != 16 || answer_len != 24) return 1;
     if (start_refusal(size, first)) return refused(answer, start_refusal(size, first), 0);
     put_reader(state, &r);
@@ -248,9 +267,9 @@ static void pass(standing *s, const uint8_t *entry)
 static num read_refusal(const reader *r, num group_len, num number, num entries, num rows_len)
 {
     if (!reader_sound(r)) return 1;
-    if (group_len != r->size) return 4;
-    if (number != r->next || r->next == LAST_NUMBER + 1) return 5;
-    if (!entries_in_range(r->size, entries)) return 6;
+    if (group_len != r->r.size) return 4;
+    if (number != r->r.next || r->r.next == LAST_NUMBER + 1) return 5;
+    if (!entries_in_range(r->r.size, entries)) return 6;
     if (rows_len < 12 * entries) return 7;
     return 0;
 }
@@ -265,24 +284,24 @@ uint32_t MODEL(read)(uint8_t *state, size_t state_len, const uint8_t *group, siz
     r = get_reader(state);
     refusal = read_refusal(&r, group_len, number, entries, rows_len);
     if (refusal) return refused(answer, refusal, 0);
-    s.where = r.phase; s.sum = r.sum; s.data = 0; s.b4 = 0;
+    s.where = r.r.phase; s.sum = r.r.sum; s.data = 0; s.b4 = 0;
     again = s;
     for (k = 1; k <= entries; k++) {
-        const uint8_t *entry = group + entry_offset(r.size, k);
-        refusal = entry_refusal(&s, entry, r.size, entries, k);
+        const uint8_t *entry = group + entry_offset(r.r.size, k);
+        refusal = entry_refusal(&s, entry, r.r.size, entries, k);
         if (refusal) return refused(answer, refusal, k);
         pass(&s, entry);
     }
     for (k = 1; k <= entries; k++) {
-        const uint8_t *entry = group + entry_offset(r.size, k);
+        const uint8_t *entry = group + entry_offset(r.r.size, k);
         put(rows + 12 * (k - 1), kind_of_flag(entry[0]));
         put(rows + 12 * (k - 1) + 4, again.data);
         put(rows + 12 * (k - 1) + 8, entry_count(entry));
         pass(&again, entry);
     }
-    r.next++;
-    r.phase = s.where;
-    r.sum = s.sum;
+    r.r.next++;
+    r.r.phase = s.where;
+    r.r.sum = s.sum;
     put_reader(state, &r);
     return finished(answer);
 }

@@ -7,6 +7,7 @@ use mathlib.Core.Bool.{true, false}
 use lib.ListN.{length, replicate}
 use Rattle.laying.specs.Start.{freshState, writerStartCall}
 use Rattle.answer.specs.Answer.{numbersTold}
+use Rattle.group.specs.declared.Phase.{Phase}
 use Rattle.group.specs.declared.Phase.the-variants as phase
 use Rattle.reader.specs.declared.Reader.{Reader}
 use Rattle.reader.specs.declared.ReaderStart.{ReaderStart}
@@ -150,12 +151,16 @@ filling rows = record { told = ok; rows = rows ++ (rowOther ∷ []) }
 abbrev pub refusing : (refusal place n : ℕ) → Read
 refusing refusal place n = record { told = refusedAt refusal place; rows = lentRows n }
 
--- A writer and a reader that stand free before the group of this number, nothing laid.
+-- A writer that stands free before the group of this number, nothing laid.
 abbrev pub freeDesk : ℕ → ℕ → Desk
 freeDesk lent number = desk (freshState size number) (replicate size lent)
 
+-- A reader before the group of this number, and one that stands free.
+abbrev pub readerAt : (number : ℕ) → Phase → (sum : ℕ) → Reader
+readerAt number p sum = record { size = size; next = number; phase = p; sum = sum }
+
 abbrev pub freeReader : ℕ → Reader
-freeReader number = read.fresh size number
+freeReader number = readerAt number phase.Free 0
 
 -- A record's bytes from its k-th on, Separator 1, an end; none sets b4.
 abbrev pub offer : ℕ → ℕ → Call
@@ -307,7 +312,7 @@ p10 =
 
 -- A reader inside a record of which the start's 24 bytes stand in group 1.
 abbrev pub insideReader : Reader
-insideReader = record { size = size; next = 2; phase = phase.Inside; sum = 24 }
+insideReader = readerAt 2 phase.Inside 24
 
 -- "P11: a lone skip inside a record gives 10 at 1."
 abbrev pub p11 : Case
