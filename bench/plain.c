@@ -12,7 +12,7 @@
 enum { TOTAL = 1, SEPARATOR, MIDDLE, START, LAST, ENTIRE, SKIP };
 enum { FREE, INSIDE, OWED, PARTED, ENDED }; /* the last two within a group: after a start or middle, after a last */
 enum { STANDARD = 126632, LONGEST = 16777215, NO_NUMBER = 65536 };
-enum { READER_LEN = 16, WRITER_LEN = 32, ANSWER_LEN = 24 };
+enum { READER_LEN = 20, WRITER_LEN = 32, ANSWER_LEN = 24 };
 
 /* a number from or to its four bytes, most significant first, moved as one word */
 static inline uint32_t turned(uint32_t n)
@@ -95,11 +95,14 @@ static const uint8_t allowed[5] = { /* bit k: kind k may stand there */
     1 << SEPARATOR | 1 << START | 1 << ENTIRE | 1 << SKIP, 1 << MIDDLE | 1 << LAST, 1 << TOTAL, 1 << SKIP, 1 << TOTAL | 1 << SKIP,
 };
 
+/* what goes on from group to group */
+typedef struct { uint32_t phase, sum, b4; } carried;
+
 /* 0 and what the group leaves, or the refusal and its place */
-static uint32_t judge(const uint8_t *group, uint32_t size, uint32_t n, uint32_t *phase, uint32_t *sum_out, uint32_t *place)
+static uint32_t judge(const uint8_t *group, uint32_t size, uint32_t n, carried *c, uint32_t *place)
 {
     const uint8_t *entry = group + size - 32;
-    uint32_t limit = size - 32 - 4 * n, where = *phase, sum = *sum_out, data = 0, b4 = 0, k;
+    uint32_t limit = size - 32 - 4 * n, where = c->phase, sum = c->sum, data = 0, b4 = c->b4, k;
     for (k = 1; k <= n; k++) {
         uint32_t word, count, code, kind;
         entry -= 4;
@@ -151,8 +154,9 @@ static uint32_t judge(const uint8_t *group, uint32_t size, uint32_t n, uint32_t 
         if (count > limit - data) return 12;
         data += count;
     }
-    *phase = where == PARTED ? INSIDE : where == ENDED ? OWED : where;
-    *sum_out = sum;
+    c->phase = where == PARTED ? INSIDE : where == ENDED ? OWED : where;
+    c->sum = sum;
+    c->b4 = b4;
     return 0;
 }
 
@@ -176,23 +180,26 @@ static void fill_rows(const uint8_t *group, uint32_t size, uint32_t n, uint8_t *
 uint32_t CALL(read)(uint8_t *state, size_t state_len, const uint8_t *group, size_t group_len, uint32_t number, uint32_t entries,
                     uint8_t *rows, size_t rows_len, uint8_t *answer, size_t answer_len)
 {
-    uint32_t size, next, phase, sum, place, refusal;
+    uint32_t size, next, place, refusal;
+    carried c;
     if (state_len != READER_LEN || answer_len != ANSWER_LEN) return 1;
     size = load32(state);
     next = load32(state + 4);
-    phase = load32(state + 8);
-    sum = load32(state + 12);
-    if (!common_sound(size, next, phase, sum)) return refuse(answer, 1, 0);
+    c.phase = load32(state + 8);
+    c.sum = load32(state + 12);
+    c.b4 = load32(state + 16);
+    if (c.b4 > 1 || !common_sound(size, next, c.phase, c.sum)) return refuse(answer, 1, 0);
     if (group_len != size) return refuse(answer, 4, 0);
     if (number != next || number == NO_NUMBER) return refuse(answer, 5, 0);
     if (entries < 1 || entries > (size - 32) / 4) return refuse(answer, 6, 0);
     if (rows_len < 12 * (size_t)entries) return refuse(answer, 7, 0);
-    refusal = judge(group, size, entries, &phase, &sum, &place);
+    refusal = judge(group, size, entries, &c, &place);
     if (refusal) return refuse(answer, refusal, place);
     fill_rows(group, size, entries, rows);
     store32(state + 4, next + 1);
-    store32(state + 8, phase);
-    store32(state + 12, sum);
+    store32(state + 8, c.phase);
+    store32(state + 12, c.sum);
+    store32(state + 16, c.b4);
     return refuse(answer, 0, 0);
 }
 
@@ -219,7 +226,7 @@ static uint32_t unfit(writer *w, const uint8_t *state, size_t group_len, uint32_
 {
     load(w, state);
     if (warn > 1 || w->b4 > 1 || !common_sound(w->size, w->next, w->phase, w->sum)) return 1;
-    if (w->entries == 0 && (w->data != 0 || w->b4 != 0)) return 1;
+    if (w->entries == 0 && w->data != 0) return 1;
     if (w->entries != 0 && (w->phase != FREE || w->next == NO_NUMBER)) return 1;
     if (w->data > STANDARD || w->entries > STANDARD || w->data + 36 + 4 * w->entries > w->size) return 1;
     if (w->phase == INSIDE ? w->rest < 1 || w->rest > LONGEST - w->sum : w->rest != 0) return 1;
@@ -261,7 +268,7 @@ static uint32_t closes(writer *w, uint8_t *group, uint32_t taken, uint8_t *state
     entries = w->entries;
     memset(group + w->data, 0, w->size - 32 - 4 * entries - w->data);
     w->next++;
-    w->data = w->entries = w->b4 = 0;
+    w->data = w->entries = 0;
     store(w, state);
     return answer_with(answer, 0, 0, 1, w->next - 1, entries, taken);
 }

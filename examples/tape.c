@@ -1,6 +1,7 @@
 /* What a box's firmware does with groups: several records and separators, a record given up by returning to a mark, the early
-   warning point, a flush, and a run that breaks off. The firmware's own part stands here too: it fills the last 32 bytes of each
-   closed group, the information table, and reads number and entry count from it. Exits with 1 if anything is not as it says. */
+   warning point, a flush, a group where b4 goes out again, and a run that breaks off. The firmware's own part stands here too: it
+   fills the last 32 bytes of each closed group, the information table, and reads number and entry count from it. Exits with 1 if
+   anything is not as it says. */
 
 #include <stdio.h>
 #include <stdlib.h>
@@ -129,7 +130,7 @@ static uint32_t write_record(writer *w, const uint8_t *data, size_t length, uint
     return DDS_ACCEPTED;
 }
 
-/* warn is said with each offer: a group that was closed took it along */
+/* a separator that closed the group was not laid: it is offered again */
 static uint32_t write_separator(writer *w, uint32_t value, uint32_t warn)
 {
     do {
@@ -181,17 +182,17 @@ static void write_tape(void)
     must(w.used == 1, "group 2 is open again");
     printf("It is given up: back at the mark, another record goes into group 2.\n");
 
-    write_item(5, 1);             /* from here on behind the early warning point */
+    write_item(5, 1);             /* the early warning point has been passed: said once, b4 stays set */
     must(w.used == 2 && dds_number(w.state, DDS_STATE_ENTRIES) == 1, "the separator closed group 2 and was laid in group 3");
     printf("Behind the early warning point a separator has no room in group 2, and is laid in group 3.\n");
 
-    write_item(6, 1);
-    must(flush(&w, 1) == DDS_ACCEPTED && w.used == 3, "an end closes group 3");
-    must(flush(&w, 1) == DDS_ACCEPTED && w.used == 3, "an end at once closes nothing");
+    write_item(6, 0);
+    must(flush(&w, 0) == DDS_ACCEPTED && w.used == 3, "an end closes group 3");
+    must(flush(&w, 0) == DDS_ACCEPTED && w.used == 3, "an end at once closes nothing");
     printf("An end closes group 3, a second one closes nothing, and writing goes on.\n");
-    write_item(7, 1);
+    write_item(7, 0);
     must(w.used == 5 && dds_number(w.state, DDS_STATE_PHASE) == DDS_PHASE_OWED, "the last record's total is owed");
-    must(flush(&w, 1) == DDS_ACCEPTED && w.used == 6, "the end lays it in group 6");
+    must(flush(&w, 0) == DDS_ACCEPTED && w.used == 6, "the end lays it in group 6");
     printf("The last record's total is owed, and the end lays it in group 6.\n");
 }
 
@@ -206,7 +207,8 @@ static void information_is_right(void)
     must(memcmp(information(card[5]), six, sizeof six) == 0, "the information table of group 6 is right");
 }
 
-/* b4 begins in the skip of group 2, which the first call behind the early warning point laid, and no later entry is without it */
+/* b4 begins in the skip of group 2, which the first call behind the early warning point laid, and no later entry is without it,
+   although no later call says it */
 static void warning_is_right(void)
 {
     uint32_t g, k, b4 = 0;
@@ -275,6 +277,23 @@ static void read_tape(void)
     printf("Every record and separator is as it was written, and the run ends free.\n");
 }
 
+/* ---- b4 that goes out at a group's edge: a mill computer stopped rewinding because of it */
+
+static void goes_out(void)
+{
+    static uint8_t other[SIZE];
+    uint8_t state[DDS_READER_LEN];
+    uint32_t k;
+    memcpy(other, card[2], SIZE);
+    for (k = 1; k <= two(information(other), TABLE_COUNT); k++) other[entry(other, k) - other] ^= DDS_FLAG_B4;
+    must(dds_reader_start(SIZE, 1, state, DDS_READER_LEN, answer, DDS_ANSWER_LEN) == DDS_ACCEPTED
+         && read_group(state, card[0]) == DDS_ACCEPTED && read_group(state, card[1]) == DDS_ACCEPTED, "groups 1 and 2 are read");
+    must(dds_number(state, DDS_READER_B4) == 1, "the reader has b4 set behind group 2");
+    must(read_group(state, other) == DDS_REFUSED_B4 && dds_number(answer, DDS_ANSWER_PLACE) == 1, "a group 3 without b4 is refused");
+    must(read_group(state, card[2]) == DDS_ACCEPTED, "the right group 3 is accepted");
+    printf("A group 3 without b4 is refused with %u at entry 1, and the right one accepted.\n", (unsigned)DDS_REFUSED_B4);
+}
+
 /* ---- A record that is given up too late: its first group is put away for good */
 
 static void broken_off(void)
@@ -311,6 +330,7 @@ int main(void)
     information_is_right();
     warning_is_right();
     read_tape();
+    goes_out();
     broken_off();
     return 0;
 }

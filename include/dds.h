@@ -30,13 +30,13 @@ extern "C" {
 
 /* ---- Version
 
-   How many change requests have landed, then the last of them, as one decimal number: 4, and 2026-02. Each landing makes it
+   How many change requests have landed, then the last of them, as one decimal number: 5, and 2026-03. Each landing makes it
    greater, so it compares, also where a request of a lower number lands later. Header and archive of one build belong together.
 
    States are not kept across versions: in another a state may have other fields or another length. A run is ended before the
    change, or started anew after it. */
 
-#define DDS_VERSION 4202602u
+#define DDS_VERSION 5202603u
 
 /* ---- Sizes */
 
@@ -59,7 +59,7 @@ extern "C" {
 
 /* ---- Lengths of the lent slices */
 
-#define DDS_READER_LEN 16u             /* a reader's state */
+#define DDS_READER_LEN 20u             /* a reader's state */
 #define DDS_WRITER_LEN 32u             /* a writer's state */
 #define DDS_ANSWER_LEN 24u             /* the answer, the same for every call */
 #define DDS_ROW_LEN    12u             /* one row; a read of n entries needs n rows at least */
@@ -76,15 +76,18 @@ extern "C" {
 #define DDS_FIELDS_LEN 37u             /* its fields, all of it that is not reserved */
 #define DDS_ALERT_LEN  8u              /* Tape Alert flags 1 to 64 */
 
-/* ---- Fields of a state. The first four are the reader's; a writer has all eight. */
+/* ---- Fields of a state. Both begin with the same four. A reader has b4 behind them, a writer four numbers more. */
 
 #define DDS_STATE_SIZE    0u           /* group size L */
 #define DDS_STATE_NEXT    4u           /* next number, 1 to 65,536; at 65,536 no number remains */
 #define DDS_STATE_PHASE   8u           /* DDS_PHASE_.. */
 #define DDS_STATE_SUM     12u          /* sum of the parts so far of an open record, or of one whose total is owed */
-#define DDS_STATE_DATA    16u          /* data bytes in the open group */
+
+#define DDS_READER_B4     16u          /* of a reader: b4, 0 clear, 1 set */
+
+#define DDS_STATE_DATA    16u          /* of a writer: data bytes in the open group */
 #define DDS_STATE_ENTRIES 20u          /* entries in the open group */
-#define DDS_STATE_B4      24u          /* b4: 0 clear, 1 set to the close */
+#define DDS_STATE_B4      24u          /* b4: 0 clear, 1 set */
 #define DDS_STATE_REST    28u          /* rest of an open record, in bytes */
 
 #define DDS_PHASE_FREE   0u            /* no record is open */
@@ -245,7 +248,7 @@ static inline uint32_t dds_number(const uint8_t *slice, size_t field)
    state   DDS_READER_LEN or DDS_WRITER_LEN bytes; what they hold does not matter
    answer  DDS_ANSWER_LEN bytes, as in every call
 
-   Accepted: the state is filled; it is free, with nothing read or laid. The answer is zeros.
+   Accepted: the state is filled; it is free, with nothing read or laid and b4 clear. The answer is zeros.
    Refused: the state slice stays as it was.
    Refusals in order: 1 by length, 2, 3. */
 
@@ -265,12 +268,12 @@ uint32_t dds_writer_start(uint32_t size, uint32_t first, uint8_t *state, size_t 
    rows     DDS_ROW_LEN bytes for each entry at least; DDS_ROWS_LEN(L) are enough for every group
 
    Accepted: the first DDS_ROW_LEN * entries bytes of rows are filled, the bytes after them stay, and the state moves on to the
-   next group. The answer is zeros. Rows of kinds 3 to 6 say where bytes of a record stand: `count` bytes of the group from
-   `offset` on.
+   next group, with b4 as the group's last entry has it. The answer is zeros. Rows of kinds 3 to 6 say where bytes of a record
+   stand: `count` bytes of the group from `offset` on.
    Refused: state and rows stay as they were; the answer says the number and, for 8 to 13 and 19 to 22, the entry. The same
    state may then be tried on another group.
    Refusals in order: 1, 4, 5, 6, 7; then entry by entry from 1, and at one entry 8, 9, 10, one of 19 to 22, 12, 13. The first
-   entry that breaks a rule is the one told.
+   entry that breaks a rule is the one told. b4 goes on from group to group: where the state has it set, entry 1 is 9 without it.
 
    At the run's end look at the phase. DDS_PHASE_FREE: every record is finished. DDS_PHASE_INSIDE or DDS_PHASE_OWED: the run ends
    in a record that is broken off, of which DDS_STATE_SUM bytes were read. No call says so by itself. */
@@ -282,8 +285,8 @@ uint32_t dds_read(uint8_t *state, size_t state_len, const uint8_t *group, size_t
 
    state   DDS_WRITER_LEN bytes, as the start or the last call left them
    group   the open group, L bytes. Until its first entry is laid any buffer will do, and what it holds does not matter
-   warn    1 where the early warning point has been passed: b4 is then set in every entry laid by this call and by later ones up
-           to the close. The close clears it: say it again for the next group. 0 otherwise; any other value is refusal 1
+   warn    1 where the early warning point has been passed: b4 is then set in every entry laid by this call and by all later
+           ones, in this and in all following groups. It need not be said again. 0 otherwise; any other value is refusal 1
 
    DDS_OUTCOME_FINISHED: the work is done and the group stays open, or an end had nothing to close. Hand the same buffer to the
    next call. Number, entries and taken are 0 in the answer, taken too where the whole offer was laid.

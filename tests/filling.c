@@ -33,7 +33,7 @@ static void record_in_empty_group(void)
     records(&s, 1);
     closed(&s, "start of the longest record", 1, 2, 24);
     slice_is(&s, GROUP, "start of the longest record", "01-18 88 00 00 28 4A 00 00 18 EE*32");
-    writer_is(&s, "start of the longest record", 64, 2, 1, 24, 0, 0, 0, 16777191);
+    writer_is(&s, "start of the longest record", 64, 2, 1, 24, 0, 0, 1, 16777191);
     leave(&s);
 }
 
@@ -130,7 +130,7 @@ static void record_inside(void)
         records(&s, cases[i].warn);
         if (cases[i].taken) {
             closed(&s, "reading 28: record inside", 9, 2, cases[i].taken);
-            writer_is(&s, "reading 28: record inside", 64, 10, cases[i].phase, cases[i].sum, 0, 0, 0, cases[i].rest);
+            writer_is(&s, "reading 28: record inside", 64, 10, cases[i].phase, cases[i].sum, 0, 0, cases[i].warn, cases[i].rest);
         } else {
             finished(&s, "reading 28: record inside");
             writer_is(&s, "reading 28: record inside", 64, 9, 0, 0, cases[i].n, 2, cases[i].warn, 0);
@@ -208,7 +208,7 @@ static void owed_total(void)
         closed(&s, "reading 22: end", 3, 2, 0);
         slice_is(&s, GROUP, "reading 22: end",
                  warn ? "00*24 88 00 00 40 09 00 00 2D EE*32" : "00*24 80 00 00 40 01 00 00 2D EE*32");
-        writer_is(&s, "reading 22: end", 64, 4, 0, 0, 0, 0, 0, 0);
+        writer_is(&s, "reading 22: end", 64, 4, 0, 0, 0, 0, warn, 0);
         leave(&s);
         s = writer(64, 3, 2, 45, 0, 0, 0, 0);
         separates(&s, 1, warn);
@@ -224,7 +224,7 @@ static void owed_total(void)
         records(&s, offers[i].warn);
         if (offers[i].entries) {
             closed(&s, "reading 22: record", 3, offers[i].entries, offers[i].taken);
-            writer_is(&s, "reading 22: record", 64, 4, 1, 20, 0, 0, 0, offers[i].rest);
+            writer_is(&s, "reading 22: record", 64, 4, 1, 20, 0, 0, offers[i].warn, offers[i].rest);
         } else {
             finished(&s, "reading 22: record");
             writer_is(&s, "reading 22: record", 64, 3, 0, 0, offers[i].n, 2, offers[i].warn, 0);
@@ -282,16 +282,21 @@ static void odd_sizes(void)
     leave(&s);
 }
 
+/* request 2026-03: a close no longer clears b4 */
 static void early_warning(void)
 {
     desk s = writer(64, 3, 0, 0, 21, 1, 0, 0);
     separates(&s, 0, 1);
     closed(&s, "reading 25: closed without laying", 3, 2, 0);
     slice_is(&s, GROUP, "reading 25: the skip carries b4", "EE*21 00*3 88 00 00 2B EE*4 EE*32");
-    writer_is(&s, "reading 25: the new group has it clear", 64, 4, 0, 0, 0, 0, 0, 0);
+    writer_is(&s, "reading 25: the next group has it set", 64, 4, 0, 0, 0, 0, 1, 0);
     memset(s.of[GROUP].at, LENT, 64);
     separates(&s, 0, 0);
-    slice_is(&s, GROUP, "reading 25: the second offer must say it again", "EE*28 07 00 00 00 EE*32");
+    slice_is(&s, GROUP, "reading 25: the second offer need not say it", "EE*28 0F 00 00 00 EE*32");
+    writer_starts(&s, 64, 4);
+    writer_is(&s, "reading 25: a fresh start clears it", 64, 4, 0, 0, 0, 0, 0, 0);
+    memset(s.of[GROUP].at, LENT, 64);
+    separates(&s, 0, 0);
     separates(&s, 1, 1);
     separates(&s, 0, 0);
     offer(&s, 3);
@@ -301,16 +306,29 @@ static void early_warning(void)
     separates(&s, 2, 0);
     refused(&s, "reading 26: a refused call keeps b4 as it was", 18, 0);
     ends(&s, 0);
-    closed(&s, "reading 25: to the close", 4, 5, 0);
+    closed(&s, "reading 25: at the close", 4, 5, 0);
     slice_is(&s, GROUP, "reading 25: the skip with them",
              "01-03 00*9 88 00 00 3D 6B 00 00 03 0F 00 00 00 0F 00 00 01 07 00 00 00 EE*32");
-    writer_is(&s, "reading 25: cleared at the close", 64, 5, 0, 0, 0, 0, 0, 0);
+    writer_is(&s, "reading 25: not cleared at the close", 64, 5, 0, 0, 0, 0, 1, 0);
+    ends(&s, 0);
+    finished(&s, "reading 27: an end that closes nothing");
+    writer_is(&s, "reading 27: an end that closes nothing leaves it set", 64, 5, 0, 0, 0, 0, 1, 0);
+    memset(s.of[GROUP].at, LENT, 64);
+    offer(&s, 44);
+    records(&s, 0);
+    closed(&s, "reading 25: a start in the next group", 5, 2, 24);
+    slice_is(&s, GROUP, "reading 25: a start in the next group", "01-18 88 00 00 28 4A 00 00 18 EE*32");
+    writer_is(&s, "reading 25: inside with b4", 64, 6, 1, 24, 0, 0, 1, 20);
+    memset(s.of[GROUP].at, LENT, 64);
+    offer(&s, 20);
+    records(&s, 0);
+    slice_is(&s, GROUP, "reading 25: last and total in the one after", "01-14 EE*4 09 00 00 2C 68 00 00 14 EE*32");
     leave(&s);
     s = writer(64, 3, 0, 0, 20, 1, 0, 0);
     offer(&s, 9);
     records(&s, 1);
     slice_is(&s, GROUP, "reading 25: a record not taken", "EE*20 00*4 88 00 00 2C EE*4 EE*32");
-    writer_is(&s, "reading 25: a record not taken", 64, 4, 0, 0, 0, 0, 0, 0);
+    writer_is(&s, "reading 25: a record not taken", 64, 4, 0, 0, 0, 0, 1, 0);
     leave(&s);
     s = writer(64, 3, 0, 0, 5, 1, 0, 0);
     separates(&s, 2, 1);
@@ -319,6 +337,7 @@ static void early_warning(void)
     slice_is(&s, GROUP, "reading 26: a refused call keeps nothing of its warn", "EE*24 07 00 00 01 EE*4 EE*32");
     ends(&s, 1);
     slice_is(&s, GROUP, "an end may set b4", "EE*5 00*15 88 00 00 3B 07 00 00 01 EE*4 EE*32");
+    writer_is(&s, "an end may set b4", 64, 4, 0, 0, 0, 0, 1, 0);
     leave(&s);
 }
 

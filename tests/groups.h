@@ -10,13 +10,14 @@
 
 /* ---- States */
 
-static inline void put_reader(uint8_t *state, uint32_t size, uint32_t next, uint32_t phase, uint32_t sum)
+static inline void put_reader(uint8_t *state, uint32_t size, uint32_t next, uint32_t phase, uint32_t sum, uint32_t b4)
 {
     memset(state, 0, DDS_READER_LEN);
     put(state + DDS_STATE_SIZE, size);
     put(state + DDS_STATE_NEXT, next);
     put(state + DDS_STATE_PHASE, phase);
     put(state + DDS_STATE_SUM, sum);
+    put(state + DDS_READER_B4, b4);
 }
 
 static inline void put_writer(uint8_t *state, uint32_t size, uint32_t next, uint32_t phase, uint32_t sum, uint32_t data,
@@ -33,13 +34,18 @@ static inline void put_writer(uint8_t *state, uint32_t size, uint32_t next, uint
     put(state + DDS_STATE_REST, rest);
 }
 
-/* a desk to read at, or to write at, with a group of the state's size */
-static inline desk reader(uint32_t size, uint32_t next, uint32_t phase, uint32_t sum)
+/* a desk to read at, with this b4 or with b4 clear, or to write at, with a group of the state's size */
+static inline desk reader_b4(uint32_t size, uint32_t next, uint32_t phase, uint32_t sum, uint32_t b4)
 {
     desk d = desk_for(READ);
     relend(&d.of[GROUP], size < 200000 ? size : 64);
-    put_reader(d.of[STATE].at, size, next, phase, sum);
+    put_reader(d.of[STATE].at, size, next, phase, sum, b4);
     return d;
+}
+
+static inline desk reader(uint32_t size, uint32_t next, uint32_t phase, uint32_t sum)
+{
+    return reader_b4(size, next, phase, sum, 0);
 }
 
 static inline desk writer(uint32_t size, uint32_t next, uint32_t phase, uint32_t sum, uint32_t data, uint32_t entries,
@@ -51,11 +57,17 @@ static inline desk writer(uint32_t size, uint32_t next, uint32_t phase, uint32_t
     return d;
 }
 
-static inline void reader_is(const desk *d, const char *name, uint32_t size, uint32_t next, uint32_t phase, uint32_t sum)
+static inline void reader_b4_is(const desk *d, const char *name, uint32_t size, uint32_t next, uint32_t phase, uint32_t sum,
+                                uint32_t b4)
 {
     uint8_t wanted[DDS_READER_LEN];
-    put_reader(wanted, size, next, phase, sum);
+    put_reader(wanted, size, next, phase, sum, b4);
     check(same_bytes(wanted, sizeof wanted, d->of[STATE].at, d->of[STATE].len), name, "state");
+}
+
+static inline void reader_is(const desk *d, const char *name, uint32_t size, uint32_t next, uint32_t phase, uint32_t sum)
+{
+    reader_b4_is(d, name, size, next, phase, sum, 0);
 }
 
 static inline void writer_is(const desk *d, const char *name, uint32_t size, uint32_t next, uint32_t phase, uint32_t sum,

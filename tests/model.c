@@ -88,7 +88,7 @@ static num sum_after(num sum, num kind, num count)
 /* ---- The states */
 
 typedef struct { num size, next, phase, sum; } run; /* what both begin with */
-typedef struct { run r; } reader;
+typedef struct { run r; num b4; } reader;
 typedef struct { run r; num d, e, b4, rest; } writer;
 
 static int sum_sound(num phase, num sum)
@@ -108,7 +108,7 @@ static int run_sound(const run *r)
 
 static int reader_sound(const reader *r)
 {
-    return run_sound(&r->r);
+    return run_sound(&r->r) && r->b4 <= 1;
 }
 
 static int writer_sound(const writer *w)
@@ -120,7 +120,6 @@ static int writer_sound(const writer *w)
     if (w->r.phase == INSIDE && (w->rest < 1 || w->r.sum + w->rest > LONGEST_RECORD)) return 0;
     if (w->r.phase != INSIDE && w->rest != 0) return 0;
     if (w->d > 0 && w->e == 0) return 0;
-    if (w->e == 0 && w->b4 != 0) return 0;
     if (w->r.next == LAST_NUMBER + 1 && (w->d != 0 || w->e != 0)) return 0;
     return 1;
 }
@@ -152,13 +151,13 @@ static void put_run(uint8_t *s, const run *r)
 static reader get_reader(const uint8_t *s)
 {
     reader r;
-    r.r = get_run(s);
+    r.r = get_run(s); r.b4 = get(s + 16);
     return r;
 }
 
 static void put_reader(uint8_t *s, const reader *r)
 {
-    put_run(s, &r->r);
+    put_run(s, &r->r); put(s + 16, r->b4);
 }
 
 static writer get_writer(const uint8_t *s)
@@ -204,7 +203,8 @@ uint32_t MODEL(reader_start)(uint32_t size, uint32_t first, uint8_t *state, size
 {
     reader r;
     r.r = fresh(size, first);
-    if (state_len != 16 || answer_len != 24) return 1;
+    r.b4 = 0;
+    if (state_len != 20 || answer_len != 24) return 1;
     if (start_refusal(size, first)) return refused(answer, start_refusal(size, first), 0);
     put_reader(state, &r);
     return finished(answer);
@@ -280,11 +280,11 @@ uint32_t MODEL(read)(uint8_t *state, size_t state_len, const uint8_t *group, siz
     reader r;
     standing s, again;
     num k, refusal;
-    if (state_len != 16 || answer_len != 24) return 1;
+    if (state_len != 20 || answer_len != 24) return 1;
     r = get_reader(state);
     refusal = read_refusal(&r, group_len, number, entries, rows_len);
     if (refusal) return refused(answer, refusal, 0);
-    s.where = r.r.phase; s.sum = r.r.sum; s.data = 0; s.b4 = 0;
+    s.where = r.r.phase; s.sum = r.r.sum; s.data = 0; s.b4 = r.b4;
     again = s;
     for (k = 1; k <= entries; k++) {
         const uint8_t *entry = group + entry_offset(r.r.size, k);
@@ -302,6 +302,7 @@ uint32_t MODEL(read)(uint8_t *state, size_t state_len, const uint8_t *group, siz
     r.r.next++;
     r.r.phase = s.where;
     r.r.sum = s.sum;
+    r.b4 = s.b4;
     put_reader(state, &r);
     return finished(answer);
 }
@@ -349,7 +350,7 @@ static uint32_t close_group(writer *w, uint8_t *group, num taken, uint8_t *state
     for (i = w->d; i < entry_offset(w->r.size, w->e); i++) group[i] = 0;
     entries = w->e;
     w->r.next++;
-    w->d = w->e = w->b4 = 0;
+    w->d = w->e = 0; /* b4 stays: document 02, request 2026-03 */
     put_writer(state, w);
     return answers(answer, 0, 0, 1, number, entries, taken);
 }

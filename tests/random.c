@@ -41,12 +41,12 @@ static uint32_t some_number(void) { return one_in(20) ? 65536 - below(2) : 1 + b
 static void sound_reader(uint8_t *state, uint32_t size)
 {
     uint32_t sum, phase = some_phase(&sum);
-    put_reader(state, size, some_number(), phase, sum);
+    put_reader(state, size, some_number(), phase, sum, below(2));
 }
 
 static void sound_writer(uint8_t *state, uint32_t size)
 {
-    uint32_t sum, phase = some_phase(&sum), next = some_number(), data = 0, entries = 0, b4 = 0, rest = 0;
+    uint32_t sum, phase = some_phase(&sum), next = some_number(), data = 0, entries = 0, rest = 0;
     if (phase == DDS_PHASE_INSIDE) {
         rest = one_in(3) ? size - 46 + below(8) : 1 + below(3 * size);
         if (rest > 16777215 - sum) rest = 16777215 - sum;
@@ -55,16 +55,15 @@ static void sound_writer(uint8_t *state, uint32_t size)
         entries = 1 + below(one_in(2) ? most : most < 4 ? most : 4);
         room = size - 32 - 4 * (entries + 1);
         data = one_in(2) ? below(room + 1) : room - below(room < 9 ? room + 1 : 9);
-        b4 = below(2);
     }
-    put_writer(state, size, next, phase, sum, data, entries, b4, rest);
+    put_writer(state, size, next, phase, sum, data, entries, below(2), rest);
 }
 
-/* a lawful table of n entries where there is one, from the state's phase on; where there is none, whatever comes */
-static void lawful(uint8_t *group, uint32_t size, uint32_t n, uint32_t phase, uint32_t sum)
+/* a lawful table of n entries where there is one, from the state's phase and b4 on; where there is none, whatever comes */
+static void lawful(uint8_t *group, uint32_t size, uint32_t n, uint32_t phase, uint32_t sum, uint32_t warned)
 {
     static const uint8_t flag[8] = { 0, 0x01, 0x07, 0x40, 0x42, 0x60, 0x63, 0x80 };
-    uint32_t k, data = 0, room = size - 32 - 4 * n, b4 = one_in(2) ? n : below(n + 1);
+    uint32_t k, data = 0, room = size - 32 - 4 * n, b4 = warned ? 0 : one_in(2) ? n : below(n + 1);
     int where = (int)phase; /* 3: skip only; 4: after a last */
     for (k = 1; k <= n; k++) {
         uint32_t kind, count, left = room - data;
@@ -145,7 +144,7 @@ static void reads_some(desk *d, long count)
         if (how == 0) {
             fill(group);
         } else {
-            lawful(group->at, size, n, field(d, DDS_STATE_PHASE), field(d, DDS_STATE_SUM));
+            lawful(group->at, size, n, field(d, DDS_STATE_PHASE), field(d, DDS_STATE_SUM), field(d, DDS_READER_B4));
             if (how > 3) spoil(group->at, size, n);
         }
         number = one_in(60) ? bound() : field(d, DDS_STATE_NEXT);

@@ -4,22 +4,24 @@
 
 #include "groups.h"
 
-/* one read at number 7, refused */
-#define REFUSED(name, phase, sum, refusal, place, ...) do { \
-        desk s_ = reader(64, 7, phase, sum); \
+/* one read at number 7, refused, by a state with this b4 or with b4 clear */
+#define REFUSED_B4(name, phase, sum, b4, refusal, place, ...) do { \
+        desk s_ = reader_b4(64, 7, phase, sum, b4); \
         table(&s_, LIST(__VA_ARGS__)); \
         reads(&s_, 7, (uint32_t)(s_.of[ROWS].len / 12)); \
         refused(&s_, name, refusal, place); \
         leave(&s_); \
     } while (0)
 
-/* one read at number 7, accepted; the phase and sum it leaves, and its rows */
+#define REFUSED(name, phase, sum, refusal, place, ...) REFUSED_B4(name, phase, sum, 0, refusal, place, __VA_ARGS__)
+
+/* one read at number 7, accepted; the phase and sum it leaves, b4 as its last entry has it, and its rows */
 #define ACCEPTED(name, phase, sum, phase_left, sum_left, rows_text, ...) do { \
         desk s_ = reader(64, 7, phase, sum); \
         table(&s_, LIST(__VA_ARGS__)); \
         reads(&s_, 7, (uint32_t)(s_.of[ROWS].len / 12)); \
         finished(&s_, name); \
-        reader_is(&s_, name, 64, 8, phase_left, sum_left); \
+        reader_b4_is(&s_, name, 64, 8, phase_left, sum_left, s_.of[GROUP].at[32 - s_.of[ROWS].len / 3] >> 3 & 1); \
         slice_is(&s_, ROWS, name, rows_text); \
         leave(&s_); \
     } while (0)
@@ -186,26 +188,72 @@ static void reading_20(void)
     REFUSED("reading 20: a total of 0 after an entire record", 0, 0, 10, 2, 0x63000001, 0x01000000, 0x8000003F);
 }
 
+/* request 2026-03: b4 goes on from group to group */
 static void reading_21(void)
 {
     desk s = reader(64, 7, 0, 0);
-    table(&s, LIST(0x0F000000, 0x4A000003, 0x8800003D));
+    table(&s, LIST(0x07000000, 0x42000003, 0x8800003D));
     reads(&s, 7, 3);
-    finished(&s, "reading 21: b4 set at once");
-    table(&s, LIST(0x40000002, 0x8000003E));
-    reads(&s, 8, 2);
-    finished(&s, "reading 21: b4 begins anew inside a record");
-    table(&s, LIST(0x60000002, 0x01000007, 0x0F000000, 0x8800003E));
-    reads(&s, 9, 4);
-    finished(&s, "reading 21: b4 begins at any entry");
-    reader_is(&s, "reading 21", 64, 10, 0, 0);
-    table(&s, LIST(0x07000000, 0x88000040));
-    reads(&s, 10, 2);
     finished(&s, "reading 21: b4 begins at the skip");
+    reader_b4_is(&s, "reading 21: b4 begins at the skip", 64, 8, 1, 3, 1);
+    table(&s, LIST(0x40000002, 0x8800003E));
+    reads(&s, 8, 2);
+    refused(&s, "reading 21: it goes out inside a record", 9, 1);
+    table(&s, LIST(0x48000002, 0x8000003E));
+    reads(&s, 8, 2);
+    refused(&s, "reading 21: it goes out at the skip", 9, 2);
+    table(&s, LIST(0x48000002, 0x8800003E));
+    reads(&s, 8, 2);
+    finished(&s, "reading 21: it stays inside a record");
+    reader_b4_is(&s, "reading 21: it stays inside a record", 64, 9, 1, 5, 1);
+    table(&s, LIST(0x68000002, 0x09000007, 0x0F000000, 0x8800003E));
+    reads(&s, 9, 4);
+    finished(&s, "reading 21: it stays");
+    reader_b4_is(&s, "reading 21: it stays", 64, 10, 0, 0, 1);
+    table(&s, LIST(0x80000040));
+    reads(&s, 10, 1);
+    refused(&s, "reading 21: it goes out in an empty group", 9, 1);
+    table(&s, LIST(0x88000040));
+    reads(&s, 10, 1);
+    finished(&s, "reading 21: it stays in an empty group");
+    reader_starts(&s, 64, 11);
+    reader_is(&s, "reading 21: a fresh start clears it", 64, 11, 0, 0);
     leave(&s);
     REFUSED("b4 dropped at 2", 0, 0, 9, 2, 0x6B000001, 0x63000001, 0x8800003E);
     REFUSED("b4 dropped at the skip", 0, 0, 9, 3, 0x63000001, 0x6B000001, 0x8000003E);
     REFUSED("b4 dropped at a total", 1, 9, 9, 2, 0x68000001, 0x0100000A, 0x8800003F);
+    REFUSED_B4("8 before 9 at entry 1", 0, 0, 1, 8, 1, 0x43000001, 0x8800003F);
+    REFUSED_B4("9 before 10 at entry 1", 0, 0, 1, 9, 1, 0x40000001, 0x8800003F);
+    REFUSED_B4("9 before 10 at entry 1, a lone skip inside", 1, 9, 1, 9, 1, 0x80000040);
+    REFUSED_B4("9 before 19 at entry 1", 0, 0, 1, 9, 1, 0x63000000, 0x88000040);
+    REFUSED_B4("9 before 20 at entry 1", 0, 0, 1, 9, 1, 0x07000002, 0x88000040);
+    REFUSED_B4("9 before 21 at entry 1", 0, 0, 1, 9, 1, 0x42FFFFFF, 0x88000040);
+    REFUSED_B4("9 before 22 at entry 1", 2, 9, 1, 9, 1, 0x01000008, 0x88000040);
+    REFUSED_B4("9 before 12 at entry 1", 0, 0, 1, 9, 1, 0x63000019, 0x88000027);
+    REFUSED_B4("9 before 13 at entry 1", 0, 0, 1, 9, 1, 0x8000003F);
+    REFUSED_B4("10 at entry 1 with b4", 0, 0, 1, 10, 1, 0x48000001, 0x8800003F);
+}
+
+/* all 256 flags at entry 1, with b4 clear and set in the state */
+static void first_flags(void)
+{
+    uint32_t flag, b4;
+    for (flag = 0; flag < 256; flag++)
+        for (b4 = 0; b4 < 2; b4++) {
+            desk s = reader_b4(64, 7, 0, 0, b4);
+            uint32_t alone = (flag & 0xF7) == 0x80, kind = flag & 0xF7, dropped = b4 && !(flag & 8);
+            table(&s, LIST(flag << 24 | (alone ? 0x40 : 1), kind == 0x07 ? 0x88000040 : 0x8800003F));
+            reads(&s, 7, alone ? 1 : 2);
+            if (kind != 0x01 && kind != 0x07 && kind != 0x40 && kind != 0x42 && kind != 0x60 && kind != 0x63 && kind != 0x80)
+                refused(&s, "every flag at entry 1", 8, 1);
+            else if (dropped) refused(&s, "every flag at entry 1", 9, 1);
+            else if (kind == 0x01 || kind == 0x40 || kind == 0x60) refused(&s, "every flag at entry 1", 10, 1);
+            else {
+                finished(&s, "every flag at entry 1");
+                reader_b4_is(&s, "every flag at entry 1", 64, 8, kind == 0x42, kind == 0x42, alone ? flag >> 3 & 1 : 1);
+            }
+            leave(&s);
+        }
 }
 
 /* all 256 flags, at entry 2, with b4 clear and set before them */
@@ -300,6 +348,7 @@ int main(void)
     reading_19();
     reading_20();
     reading_21();
+    first_flags();
     flags();
     follow();
     largest_table();

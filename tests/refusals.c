@@ -108,10 +108,9 @@ static void read_entry_refusals(void)
     size_t i;
     for (i = 0; i < sizeof faults / sizeof *faults; i++)
         for (k = 1; k <= 4; k++) {
-            desk s = reader(64, 1, 0, 0);
+            desk s = reader_b4(64, 1, 0, 0, 1); /* b4 set, so that it can be dropped at entry 1 too */
             table(&s, LIST(0x0F000000, 0x0F000001, 0x0F000000, 0x0F000001, 0x88000040));
             put(entry(&s.of[GROUP], k), faults[i].entry);
-            if (faults[i].refusal == 9 && k == 1) { leave(&s); continue; } /* no entry before it has b4 set */
             reads(&s, 1, 5);
             refused(&s, "read, entry refusal", faults[i].refusal, k);
             leave(&s);
@@ -206,7 +205,7 @@ static void separator_order(void)
     uint32_t faults, i;
     for (faults = 0; faults < 64; faults++) {
         uint32_t inside = faults & 16 ? 1 : 0;
-        desk s = writer(64, faults & 8 ? 65536 : 9, inside, inside * 40, 0, 0, faults & 1 ? 1 : 0, inside * 30);
+        desk s = writer(64, faults & 8 ? 65536 : 9, inside, inside * 40, 0, 0, faults & 1 ? 2 : 0, inside * 30);
         if (faults & 4) relend(&s.of[GROUP], 65);
         separates(&s, faults & 32 ? 2 : 1, faults & 2 ? 2 : 0);
         for (i = 0; i < 6 && !(faults >> i & 1); i++) { }

@@ -3,11 +3,11 @@
 
 #include "groups.h"
 
-static void try_reader(uint32_t sound, uint32_t size, uint32_t next, uint32_t phase, uint32_t sum)
+static void try_reader(uint32_t sound, uint32_t size, uint32_t next, uint32_t phase, uint32_t sum, uint32_t b4)
 {
     char name[80];
-    desk s = reader(size, next, phase, sum);
-    snprintf(name, sizeof name, "reader %u %u %u %u", size, next, phase, sum);
+    desk s = reader_b4(size, next, phase, sum, b4);
+    snprintf(name, sizeof name, "reader %u %u %u %u %u", size, next, phase, sum, b4);
     relend(&s.of[GROUP], 0);
     reads(&s, next, 1);
     refused(&s, name, sound ? 4 : 1, 0);
@@ -30,11 +30,20 @@ static void try_writer(uint32_t sound, uint32_t size, uint32_t next, uint32_t ph
     leave(&s);
 }
 
-/* what reader and writer share, on a writer with nothing in its group */
+/* what reader and writer share, on a writer with nothing in its group; with b4 clear, set, and a number that has no meaning */
 static void try_both(uint32_t sound, uint32_t size, uint32_t next, uint32_t phase, uint32_t sum)
 {
-    try_reader(sound, size, next, phase, sum);
-    try_writer(sound, size, next, phase, sum, 0, 0, 0, phase == 1 ? 1 : 0);
+    static const uint32_t none[] = { 2, 3, 256, 257, 0x01000000, 0x80000000, 0x80000001, 0xFFFFFFFF }; /* reading 12 */
+    uint32_t b4, rest = phase == 1 ? 1 : 0;
+    size_t i;
+    for (b4 = 0; b4 < 2; b4++) {
+        try_reader(sound, size, next, phase, sum, b4);
+        try_writer(sound, size, next, phase, sum, 0, 0, b4, rest);
+    }
+    for (i = 0; i < sizeof none / sizeof *none; i++) {
+        try_reader(0, size, next, phase, sum, none[i]);
+        try_writer(0, size, next, phase, sum, 0, 0, none[i], rest);
+    }
 }
 
 static void shared(void)
@@ -108,7 +117,8 @@ static void writers(void)
     try_writer(0, 64, 9, 0, 0, 4, 0xFFFFFFFF, 0, 0);
     try_writer(0, 64, 9, 0, 0, 1, 0, 0, 0);                   /* d > 0 needs e > 0 */
     try_writer(0, 64, 9, 0, 0, 28, 0, 0, 0);
-    try_writer(0, 64, 9, 0, 0, 0, 0, 1, 0);                   /* e = 0 means b4 clear */
+    try_writer(1, 64, 9, 0, 0, 0, 0, 1, 0);                   /* request 2026-03: b4 may be set at e = 0 */
+    try_writer(1, 64, 65536, 0, 0, 0, 0, 1, 0);
     try_writer(0, 64, 9, 0, 0, 0, 0, 2, 0);
     try_writer(1, 64, 9, 0, 0, 0, 1, 1, 0);
     try_writer(0, 64, 9, 0, 0, 0, 1, 2, 0);                   /* reading 12 */
@@ -125,16 +135,18 @@ static void writers(void)
     try_writer(0, 64, 65536, 0, 0, 20, 2, 0, 0);
     try_writer(0, 64, 65536, 0, 0, 0, 1, 0, 0);
     try_writer(0, 64, 65536, 0, 0, 0, 1, 1, 0);
-    for (e = 1; e < 3; e++) { /* inside or owed means d = e = 0, so b4 clear */
+    for (e = 1; e < 3; e++) { /* inside or owed means d = e = 0; b4 may be set */
         uint32_t rest = e == 1 ? 7 : 0;
         try_writer(1, 64, 9, e, 45, 0, 0, 0, rest);
         try_writer(0, 64, 9, e, 45, 1, 0, 0, rest);
         try_writer(0, 64, 9, e, 45, 0, 1, 0, rest);
         try_writer(0, 64, 9, e, 45, 1, 1, 0, rest);
-        try_writer(0, 64, 9, e, 45, 0, 0, 1, rest);
+        try_writer(1, 64, 9, e, 45, 0, 0, 1, rest);
+        try_writer(0, 64, 9, e, 45, 0, 0, 2, rest);
         try_writer(0, 64, 9, e, 45, 0, 1, 1, rest);
         try_writer(0, 64, 9, e, 45, 0, 0x40000000, 0, rest);
         try_writer(1, 64, 65536, e, 45, 0, 0, 0, rest);
+        try_writer(1, 64, 65536, e, 45, 0, 0, 1, rest);
     }
     try_writer(0, 64, 9, 1, 45, 0, 0, 0, 0);                  /* inside, the rest is 1 or more */
     try_writer(1, 64, 9, 1, 45, 0, 0, 0, 16777170);           /* sum plus rest at most 16,777,215 */

@@ -124,16 +124,21 @@ case('b4-on-the-skip-alone', run([entire(3), warned(skip(61))]), '''
     skip 3 61
     end free 0''')
 
-case('b4-anew-in-the-next-group', run([warned(entire(3)), warned(skip(61))], [entire(3), skip(61)]), '''
+case('b4-from-the-second-groups-skip-on', run([entire(3), skip(61)], [separator(0), warned(skip(64))],
+     [warned(entire(3)), warned(skip(61))]), '''
     group 1 entries 2
     entire 0 3
     skip 3 61
     group 2 entries 2
+    separator 0 0
+    skip 0 64
+    group 3 entries 2
     entire 0 3
     skip 3 61
     end free 0''')
 
-case('b4-anew-inside-a-record', run([warned(start(24)), warned(skip(40))], [middle(24), skip(40)], [last(2), warned(total(50)), warned(skip(62))]), '''
+case('b4-through-a-record', run([warned(start(24)), warned(skip(40))], [warned(middle(24)), warned(skip(40))],
+     [warned(last(2)), warned(total(50)), warned(skip(62))]), '''
     group 1 entries 2
     start 0 24
     skip 24 40
@@ -438,12 +443,26 @@ case('refused-8-not-9', run([warned(entire(2)), entry(0x62, 1), skip(61)]), 'ref
 case('refused-8-high-bit', run([entry(0xE3, 20), skip(44)]), 'refused 8 at 1')
 
 
-# ---- Refusal 9: b4 dropped. There is nothing before entry 1 to drop it from. ------------------------------------------
+# ---- Refusal 9: b4 dropped, at an entry or at a group's edge -----------------------------------------------------------
 
 case('refused-9-middle', run([warned(entire(2)), separator(0), skip(62)]), 'refused 9 at 2')
 case('refused-9-last', run([entire(2), warned(separator(0)), skip(62)]), 'refused 9 at 3')
 case('refused-9-set-dropped-set', run([warned(separator(0)), separator(0), warned(separator(0)), warned(skip(64))]), 'refused 9 at 2')
 case('refused-9-not-10', run([warned(entire(2)), last(1), skip(61)]), 'refused 9 at 2')
+for name, table, refusal in [
+    ('at-a-groups-edge', [entire(3), skip(61)], 9), ('at-a-groups-edge-set-again', [entire(3), warned(skip(61))], 9),
+    ('in-an-empty-group', [skip(64)], 9), ('at-1-not-10', [last(3), warned(skip(61))], 9),
+    ('at-1-not-19', [entire(0), warned(skip(64))], 9), ('at-1-but-8', [entry(0x62, 1), warned(skip(63))], 8)]:
+    case('refused-9-' + name, run([entire(3), warned(skip(61))], table), f'''
+    group 1 entries 2
+    entire 0 3
+    skip 3 61
+    refused {refusal} at 1''')
+case('refused-9-at-an-edge-inside', run([warned(start(24)), warned(skip(40))], [middle(24), warned(skip(40))]), '''
+    group 1 entries 2
+    start 0 24
+    skip 24 40
+    refused 9 at 1''')
 case('refused-9-in-the-second-group', run([warned(skip(64))], [warned(entire(2)), skip(62)]), '''
     group 1 entries 1
     skip 0 64

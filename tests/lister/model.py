@@ -121,7 +121,7 @@ class Reader:
             raise Refusal(2, 0)
         if not 1 <= first <= LAST_NUMBER:
             raise Refusal(3, 0)
-        self.size, self.next, self.phase, self.sum = size, first, 'free', 0
+        self.size, self.next, self.phase, self.sum, self.b4 = size, first, 'free', 0, False
 
     def read(self, image, number, n):
         """The rows of a group that is accepted; a refusal leaves the state."""
@@ -129,7 +129,7 @@ class Reader:
             raise Refusal(5, 0)
         if n < 1 or 32 + 4 * n > self.size:
             raise Refusal(6, 0)
-        stand, b4, total, offset, rows = self.phase, False, self.sum, 0, []
+        stand, b4, total, offset, rows = self.phase, self.b4, self.sum, 0, []
         for k in range(1, n + 1):
             flag, count = entry_at(image, self.size, k)
             if not known(flag):
@@ -149,7 +149,7 @@ class Reader:
             rows.append((kind, offset, count))
             stand, b4, total = stand_after(stand, kind), bool(flag & B4), sum_after(total, kind, count)
             offset += count if kind in PARTS else 0
-        self.next, self.phase, self.sum = number + 1, leave(stand), total
+        self.next, self.phase, self.sum, self.b4 = number + 1, leave(stand), total, b4
         return rows
 
 

@@ -8,7 +8,7 @@ use Rattle.group.specs.State.{runSound, startRefusal}
 use Rattle.laying.specs.Start.{writerStartCall}
 use Rattle.laying.specs.Room.{room, fitOf}
 use Rattle.laying.specs.Laying.{layEntry, layData, layPart, moved, laySkip, zeroGap, shut, warnState, payOwed, ready}
-use Rattle.sound.specs.State.{roomKept, emptyKept, restKept, dataKept, clearKept, spentKept, writerSound, recordRefusal}
+use Rattle.sound.specs.State.{roomKept, emptyKept, restKept, dataKept, spentKept, writerSound, recordRefusal}
 use Rattle.writer.specs.Calls.{finished, closed, orRefused, byFit, recordFree, recordAccepted, recordCall, stateOf}
 use Rattle.slices.specs.Call.{lengthsKept, called}
 use Rattle.states.specs.States.{writerOf, writerMeant}
@@ -16,5 +16,5 @@ use Rattle.c_writer.specs.Calls.{ddsWriterStart, written, ddsRecord}
 use Rattle.c_writer.specs.Worked.{callsShown, callsExpected}
 
 pub worked : callsShown ≡ callsExpected
-unfolding put numberAt bytesOf inBytes entryBytes runSound startRefusal writerStartCall room fitOf layEntry layData layPart moved laySkip zeroGap shut warnState payOwed ready roomKept emptyKept restKept dataKept clearKept spentKept writerSound recordRefusal finished closed orRefused byFit recordFree recordAccepted recordCall stateOf lengthsKept called writerOf writerMeant ddsWriterStart written ddsRecord
+unfolding put numberAt bytesOf inBytes entryBytes runSound startRefusal writerStartCall room fitOf layEntry layData layPart moved laySkip zeroGap shut warnState payOwed ready roomKept emptyKept restKept dataKept spentKept writerSound recordRefusal finished closed orRefused byFit recordFree recordAccepted recordCall stateOf lengthsKept called writerOf writerMeant ddsWriterStart written ddsRecord
 worked = refl

@@ -27,8 +27,8 @@ callsShown =
     ∷ []
 
 -- L, the next number and zeros. Laid: 8 data bytes, two entries, b4 as it was; the bytes behind the data, the entry below the other.
--- Closed: the next number is 8, inside, sum 15, nothing laid, rest 15; a start and a skip of 64 - 20 = 44, both with b4; the answer
--- says outcome 1, number 7, three entries, 15 taken.
+-- Closed: the next number is 8, inside, sum 15, nothing laid, b4 still set, rest 15; a start and a skip of 64 - 20 = 44, both with
+-- b4; the answer says outcome 1, number 7, three entries, 15 taken.
 abbrev pub callsExpected : List Left
 callsExpected =
     left 0 ((0x00 ∷ 0x01 ∷ 0xEE ∷ 0xA8 ∷ 0x00 ∷ 0x00 ∷ 0x02 ∷ 0x01 ∷ replicate 24 0) ∷ []) (replicate 24 0)
@@ -37,7 +37,7 @@ callsExpected =
     ∷ (replicate 5 0xEE ++ (replicate 3 0x41 ++ (replicate 16 0xEE ++ ((0x6B ∷ 0 ∷ 0 ∷ 3 ∷ 0x6B ∷ 0 ∷ 0 ∷ 5 ∷ []) ++ replicate 32 0xEE))))
     ∷ []) (replicate 24 0)
     ∷ left 0
-    ((small 64 ++ (small 8 ++ (small 1 ++ (small 15 ++ (small 0 ++ (small 0 ++ (small 0 ++ small 15)))))))
+    ((small 64 ++ (small 8 ++ (small 1 ++ (small 15 ++ (small 0 ++ (small 0 ++ (small 1 ++ small 15)))))))
     ∷ (replicate 5 0xEE ++ (replicate 15 0x41 ++ ((0x88 ∷ 0 ∷ 0 ∷ 44 ∷ 0x4A ∷ 0 ∷ 0 ∷ 15 ∷ 0x6B ∷ 0 ∷ 0 ∷ 5 ∷ []) ++ replicate 32 0xEE)))
     ∷ []) (small 0 ++ (small 0 ++ (small 1 ++ (small 7 ++ (small 3 ++ small 15)))))
     ∷ []

@@ -88,7 +88,7 @@ advance c k warned count =
       reached = reachedAfter k (c .reached) count;
     }
 
--- 9: "once an entry of a group has it set, every later entry of that group has it set".
+-- 9: once an entry has it set, "all following entries of this and all following groups" have it.
 abbrev pub b4Kept : Bool → Bool → Bool
 b4Kept before warned = not before || warned
 

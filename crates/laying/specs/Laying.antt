@@ -2,7 +2,7 @@
 -- Assumes nothing.
 use Prim.Native.Nat.{ℕ, _+_, _-_}
 use mathlib.Core.List.{List}
-use mathlib.Core.Bool.{Bool, false, _||_}
+use mathlib.Core.Bool.{Bool, _||_}
 use lib.ListN.{length, replicate}
 use Rattle.numbers.specs.Store.{put}
 use Rattle.group.specs.declared.Kind.{Kind}
@@ -51,7 +51,7 @@ movedState phase sum rest s =
       entries = s .entries;
     }
 
--- "A call may set b4; it then stays set to the close."
+-- "A call may set b4"; it then stays set: "a close no longer clears it".
 unfoldable pub warnState : Bool → Writer → Writer
 warnState warn s =
     record {
@@ -65,14 +65,14 @@ warnState warn s =
       entries = s .entries;
     }
 
--- "After a close d, e and b4 begin anew and the number is one higher."
+-- After a close d and e begin anew, b4 stays as it is, "and the number is one higher".
 abbrev pub nextState : Writer → Writer
 nextState s =
     record {
       size = s .size;
       next = s .next + 1;
       phase = s .phase;
-      warned = false;
+      warned = s .warned;
       sum = s .sum;
       rest = s .rest;
       filled = 0;

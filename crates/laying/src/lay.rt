@@ -75,7 +75,6 @@ pub fn shut(w: Writer, group: &mut [u8]) -> Writer
     state.next = v.next + 1;
     state.filled = 0;
     state.entries = 0;
-    state.warned = false;
     state
 }
 

@@ -1,11 +1,11 @@
 -- The open group's buffer: data, gap, table, the last 32 bytes; what laying data and entries does to it, and what it is when
 -- it is shut.
 -- Assumes nothing.
-use Prim.Native.Nat.{ℕ, zero, suc, _+_, _*_, _-_, _≤_}
+use Prim.Native.Nat.{ℕ, zero, suc, _+_, _*_, _-_, _≤_, _<_}
 use native.Mathlib.Omega.{arith}
 use native.Mathlib.Numerals.{add-one}
 use mathlib.Core.List.{List, [], _∷_, _++_, append-assoc, append-nil}
-use mathlib.Core.Bool.{Bool, true, false}
+use mathlib.Core.Bool.{Bool, true, false, false≢true}
 use mathlib.Core.Path.{_≡_, refl, sym, ap, _∙_}
 use lib.ListN.{length, length-append, take, drop, take-append-drop, length-take, length-drop, replicate, length-replicate}
 use lib.Seq.{take-append-seam, drop-append-seam, drop-append-add, length-take-le, take-at}
@@ -19,7 +19,7 @@ use Rattle.numbers.proofs.Stores.{put-split}
 use Rattle.group.proofs.EntryLaws.{length-entry, length-table}
 use Rattle.laying.specs.Bounds.{span}
 use Rattle.layout.specs.Items.{Piece}
-use Rattle.layout.specs.Layout.{kindOf, countOf, dataOf, userData, entriesOf, b4After, plainLeft, Image, Pictures}
+use Rattle.layout.specs.Layout.{kindOf, countOf, dataOf, userData, entriesOf, b4After, plainLeft, Pictures}
 use Rattle.layout.specs.Writing.{withInformation, imageOf}
 
 -- Lists.
@@ -131,10 +131,11 @@ heads-set zero (q ∷ ps) p h = ap {B = List Entry} (λ r. entry (flagOf (kindOf
 heads-set (suc n) [] p h = absurd (omega arith)
 heads-set (suc n) (q ∷ ps) p h = ap {B = List Entry} (λ r. entry (flagOf (kindOf q) false) (countOf q) ∷ r) (heads-set n ps p (omega arith))
 
-entries-clear : (over : ℕ) (ps : List Piece) → entriesOf (suc (length ps)) over ps ≡ heads (length ps) ps ++ (entry (flagOf Skip false) over ∷ [])
+entries-clear : (plain over : ℕ) (ps : List Piece) → length ps < plain → entriesOf plain over ps ≡ heads (length ps) ps ++ (entry (flagOf Skip false) over ∷ [])
 unfolding heads entriesOf b4After plainLeft
-entries-clear over [] = refl
-entries-clear over (q ∷ ps) = ap {B = List Entry} (λ r. entry (flagOf (kindOf q) false) (countOf q) ∷ r) (entries-clear over ps)
+entries-clear zero over ps h = absurd (omega arith)
+entries-clear (suc n) over [] h = refl
+entries-clear (suc n) over (q ∷ ps) h = ap {B = List Entry} (λ r. entry (flagOf (kindOf q) false) (countOf q) ∷ r) (entries-clear n over ps (omega arith))
 
 entries-set : (plain over : ℕ) (ps : List Piece) → plain ≤ length ps → entriesOf plain over ps ≡ heads plain ps ++ (entry (flagOf Skip true) over ∷ [])
 unfolding heads entriesOf b4After plainLeft
@@ -162,41 +163,49 @@ pub data Flagged : Bool → ℕ → ℕ → Type 0 where
 record OneMore (b : Bool) (plain n : ℕ) (ps : List Piece) (p : Piece) : Type 0 where
   more : ℕ
   flagged : Flagged b more (n + 1)
+  stays : b ≡ true → more ≡ plain
   grows : heads more (ps ++ (p ∷ [])) ≡ heads plain ps ++ (entry (flagOf (kindOf p) b) (countOf p) ∷ [])
 
 one-more : {b : Bool} {plain n : ℕ} (ps : List Piece) (p : Piece) → n ≡ length ps → Flagged b plain n → OneMore b plain n ps p
-one-more {n} ps p e clear = record { more = n + 1; flagged = clear; grows = rw (add-one, e) (heads-clear ps p) }
-one-more {plain} {n} ps p e (set h) = record { more = plain; flagged = set {plain = plain} {n = n + 1} (omega arith); grows = heads-set plain ps p (omega arith) }
+one-more {n} ps p e clear = record { more = n + 1; flagged = clear; stays = λ x. absurd (false≢true x); grows = rw (add-one, e) (heads-clear ps p) }
+one-more {plain} {n} ps p e (set h) = record { more = plain; flagged = set {plain = plain} {n = n + 1} (omega arith); stays = λ x. refl; grows = heads-set plain ps p (omega arith) }
 
-record WithSkip (b : Bool) (plain over : ℕ) (ps : List Piece) : Type 0 where
-  more : ℕ
-  ends : entriesOf more over ps ≡ heads plain ps ++ (entry (flagOf Skip b) over ∷ [])
+-- In how many entries b4 is clear, with the skip after n entries and with what follows: clear, in more than n; set, in no more.
+pub data Through (n : ℕ) : Bool → ℕ → ℕ → Type 0 where
+  all-clear : {plain past : ℕ} → n < past → Through n false plain past
+  no-more : {plain : ℕ} → Through n true plain plain
 
-with-skip : {b : Bool} {plain n : ℕ} (over : ℕ) (ps : List Piece) → n ≡ length ps → Flagged b plain n → WithSkip b plain over ps
-with-skip {n} over ps e clear = record { more = suc n; ends = rw e (entries-clear over ps) }
-with-skip {plain} over ps e (set h) = record { more = plain; ends = entries-set plain over ps (omega arith) }
+with-skip : {b : Bool} {plain n past : ℕ} (over : ℕ) (ps : List Piece) → n ≡ length ps → Flagged b plain n → Through n b plain past
+    → entriesOf past over ps ≡ heads plain ps ++ (entry (flagOf Skip b) over ∷ [])
+with-skip {past} over ps e clear (all-clear h) = rw e (entries-clear past over ps (omega arith))
+with-skip {plain} over ps e (set h) no-more = entries-set plain over ps (omega arith)
 
--- The open group holds these pieces.
-
-pub record Buffered (size filled entries : ℕ) (warned : Bool) (g : List ℕ) (ps : List Piece) : Type 0 where
+-- The open group holds these pieces; `before` is b4 as the group began.
+pub record Buffered (size filled entries : ℕ) (before warned : Bool) (g : List ℕ) (ps : List Piece) : Type 0 where
   pub plain : ℕ
   pub flagged : Flagged warned plain entries
+  pub carried : before ≡ true → (warned ≡ true) × (plain ≡ 0)
   pub counted : entries ≡ length ps
   pub reached : filled ≡ length (userData ps)
   pub shape : Shape size (userData ps) (tableBytes (heads plain ps)) g
 
-pub buffered-fresh : {size : ℕ} {g : List ℕ} → informationLength ≤ size → length g ≡ size → Buffered size 0 0 false g []
+none-flagged : (b : Bool) → Flagged b 0 0
+none-flagged false = clear
+none-flagged true = set {plain = 0} {n = 0} (omega arith)
+
+pub buffered-fresh : {size : ℕ} {g : List ℕ} (b : Bool) → informationLength ≤ size → length g ≡ size → Buffered size 0 0 b b g []
 unfolding userData tableBytes heads
-buffered-fresh h e = record { plain = 0; flagged = clear; counted = refl; reached = refl; shape = shape-fresh h e }
+buffered-fresh b h e = record { plain = 0; flagged = none-flagged b; carried = λ x. (x, refl); counted = refl; reached = refl; shape = shape-fresh h e }
 
 -- .. and the same buffer with other last 32 bytes.
-pub buffered-changed : {size filled entries : ℕ} {warned : Bool} {g : List ℕ} {ps : List Piece} (information : List ℕ) → length information ≡ informationLength →
-    Buffered size filled entries warned g ps → Buffered size filled entries warned (withInformation g information) ps
+pub buffered-changed : {size filled entries : ℕ} {before warned : Bool} {g : List ℕ} {ps : List Piece} (information : List ℕ) → length information ≡ informationLength →
+    Buffered size filled entries before warned g ps → Buffered size filled entries before warned (withInformation g information) ps
 buffered-changed {g = g} information i b =
     let s = b .shape in
     record {
       plain = b .plain;
       flagged = b .flagged;
+      carried = b .carried;
       counted = b .counted;
       reached = b .reached;
       shape =
@@ -212,34 +221,25 @@ buffered-changed {g = g} information i b =
 length-heads-table : (plain : ℕ) (ps : List Piece) → length (tableBytes (heads plain ps)) ≡ 4 * length ps
 length-heads-table plain ps = length-table (heads plain ps) ∙ ap (λ (n : ℕ). 4 * n) (length-heads plain ps)
 
--- Some entry is the first with b4, or none is.
-pub record Pictured (size : ℕ) (ps : List Piece) (g : Image) : Type 0 where
-  pub plain : ℕ
-  pub picture : Pictures size plain ps g
-
 -- A buffer of this shape pictures pieces whose table it holds.
 pictured : {size : ℕ} {t g : List ℕ} {ps : List Piece} (plain number n : ℕ) (information : List ℕ) → Shape size (userData ps) t g →
     tableBytes (entriesOf plain (size - length (userData ps)) ps) ≡ t → length information ≡ informationLength → n ≡ suc (length ps) →
-    Pictured size ps (imageOf number n g information)
+    Pictures size plain ps (imageOf number n g information)
 unfolding imageOf
 pictured plain number n information s e l c =
     record {
-      plain = plain;
-      picture =
-          record {
-            gap = s .gap;
-            information = information;
-            thirtyTwo = l;
-            counted = c;
-            filled = rw (shape-length s) (filled-length s information l);
-            stands = rw (e, shape-length s) (shape-filled s information);
-          };
+      gap = s .gap;
+      information = information;
+      thirtyTwo = l;
+      counted = c;
+      filled = rw (shape-length s) (filled-length s information l);
+      stands = rw (e, shape-length s) (shape-filled s information);
     }
 
-module _ {size filled entries : ℕ} {warned : Bool} {g : List ℕ} {ps : List Piece} where
-  entered : (p : Piece) (h : List ℕ) → (s : Buffered size filled entries warned g ps) → Shape size (userData ps ++ dataOf p) (tableBytes (heads (s .plain) ps)) h →
+module _ {size filled entries : ℕ} {before warned : Bool} {g : List ℕ} {ps : List Piece} where
+  entered : (p : Piece) (h : List ℕ) → (s : Buffered size filled entries before warned g ps) → Shape size (userData ps ++ dataOf p) (tableBytes (heads (s .plain) ps)) h →
       span (filled + length (dataOf p)) (entries + 1) ≤ size →
-      Buffered size (filled + length (dataOf p)) (entries + 1) warned (put h (entryOffset size (entries + 1)) (entryBytes (entry (flagOf (kindOf p) warned) (countOf p)))) (ps ++ (p ∷ []))
+      Buffered size (filled + length (dataOf p)) (entries + 1) before warned (put h (entryOffset size (entries + 1)) (entryBytes (entry (flagOf (kindOf p) warned) (countOf p)))) (ps ++ (p ∷ []))
   entered p h s f room =
       let r = one-more ps p (s .counted) (s .flagged) in
       let e : Entry = entry (flagOf (kindOf p) warned) (countOf p) in
@@ -253,22 +253,23 @@ module _ {size filled entries : ℕ} {warned : Bool} {g : List ℕ} {ps : List P
       record {
         plain = r .more;
         flagged = r .flagged;
+        carried = λ x. let (w, none) = s .carried x in (w, r .stays w ∙ none);
         counted = rw length-snoc (omega arith);
         reached = rw (data-snoc ps p) (omega arith);
         shape = rw (t, data-snoc ps p) (shape-entry (entryBytes e) at f (omega arith) (omega arith));
       }
 
   -- An entry that carries no data.
-  pub buffered-entry : (p : Piece) → dataOf p ≡ [] → span filled (entries + 1) ≤ size → Buffered size filled entries warned g ps →
-      Buffered size filled (entries + 1) warned (put g (entryOffset size (entries + 1)) (entryBytes (entry (flagOf (kindOf p) warned) (countOf p)))) (ps ++ (p ∷ []))
+  pub buffered-entry : (p : Piece) → dataOf p ≡ [] → span filled (entries + 1) ≤ size → Buffered size filled entries before warned g ps →
+      Buffered size filled (entries + 1) before warned (put g (entryOffset size (entries + 1)) (entryBytes (entry (flagOf (kindOf p) warned) (countOf p)))) (ps ++ (p ∷ []))
   buffered-entry p e room s =
       let none : filled + length (dataOf p) ≡ filled = rw e (omega arith) in
       let f : Shape size (userData ps ++ dataOf p) (tableBytes (heads (s .plain) ps)) g = rw (e, append-nil) (s .shape) in
       rw none at (entered p g s f (omega arith))
 
   -- Data and its entry.
-  pub buffered-part : (p : Piece) → span (filled + length (dataOf p)) (entries + 1) ≤ size → Buffered size filled entries warned g ps →
-      Buffered size (filled + length (dataOf p)) (entries + 1) warned
+  pub buffered-part : (p : Piece) → span (filled + length (dataOf p)) (entries + 1) ≤ size → Buffered size filled entries before warned g ps →
+      Buffered size (filled + length (dataOf p)) (entries + 1) before warned
       (put (put g filled (dataOf p)) (entryOffset size (entries + 1)) (entryBytes (entry (flagOf (kindOf p) warned) (countOf p)))) (ps ++ (p ∷ []))
   buffered-part p room s =
       let many = length-heads-table (s .plain) ps in
@@ -277,22 +278,22 @@ module _ {size filled entries : ℕ} {warned : Bool} {g : List ℕ} {ps : List P
       entered p (put g filled (dataOf p)) s (shape-data (dataOf p) filled (s .shape) d (omega arith)) room
 
   -- Shut: the skip, zeros in the gap, and any last 32 bytes.
-  pub buffered-shut : (number : ℕ) (information : List ℕ) → length information ≡ informationLength → span filled (entries + 1) ≤ size → Buffered size filled entries warned g ps →
-      Pictured size ps
+  pub buffered-shut : (number : ℕ) (information : List ℕ) → length information ≡ informationLength → span filled (entries + 1) ≤ size → (s : Buffered size filled entries before warned g ps) →
+      {past : ℕ} → Through entries warned (s .plain) past → Pictures size past ps
       (imageOf number (entries + 1)
       (put (put g (entryOffset size (entries + 1)) (entryBytes (entry (flagOf Skip warned) (size - filled)))) filled (replicate (entryOffset size (entries + 1) - filled) 0))
       information)
-  buffered-shut number information l room s =
+  buffered-shut number information l room s {past} t′ =
       let over : ℕ = size - filled in
-      let r = with-skip over ps (s .counted) (s .flagged) in
+      let r = with-skip over ps (s .counted) (s .flagged) t′ in
       let e : Entry = entry (flagOf Skip warned) over in
       let four = length-entry e in
       let many = length-heads-table (s .plain) ps in
       let c = s .counted in
       let d = s .reached in
-      let t : tableBytes (entriesOf (r .more) (size - length (userData ps)) ps) ≡ entryBytes e ++ tableBytes (heads (s .plain) ps) =
-      rw (← d, r .ends) (table-snoc (heads (s .plain) ps) e) in
+      let t : tableBytes (entriesOf past (size - length (userData ps)) ps) ≡ entryBytes e ++ tableBytes (heads (s .plain) ps) =
+      rw (← d, r) (table-snoc (heads (s .plain) ps) e) in
       let one : Shape size (userData ps) (entryBytes e ++ tableBytes (heads (s .plain) ps)) (put g (entryOffset size (entries + 1)) (entryBytes e)) =
       shape-entry (entryBytes e) (entryOffset size (entries + 1)) (s .shape) (omega arith) (omega arith) in
       let m : length (entryBytes e ++ tableBytes (heads (s .plain) ps)) ≡ 4 + 4 * length ps = length-append (entryBytes e) (tableBytes (heads (s .plain) ps)) ∙ omega arith in
-      pictured (r .more) number (entries + 1) information (shape-zeros filled (entryOffset size (entries + 1) - filled) one d (omega arith)) t l (omega arith)
+      pictured past number (entries + 1) information (shape-zeros filled (entryOffset size (entries + 1) - filled) one d (omega arith)) t l (omega arith)

@@ -19,7 +19,7 @@ use Rattle.entry.specs.declared.Stand.{Stand}
 use Rattle.entry.specs.declared.Stand.the-variants.{Free}
 use Rattle.reader.specs.declared.ReaderStart.the-variants as start
 use Rattle.reader.specs.declared.ReadAnswer.the-variants as answer
-use Rattle.entry.specs.Rules.{standAt}
+use Rattle.entry.specs.Rules.{standAt, b4Kept}
 use Rattle.reader.specs.Answer.{fresh, readerStartCall, opening, closing, groupScan, readCall}
 use Rattle.reader.proofs.Accepted.{Ready, accepts}
 use Rattle.layout.specs.Items.{Item, Tail, Piece, Token, Each, grouped, joined, soFar, wholeOf, SoundTail}
@@ -27,7 +27,7 @@ use Rattle.layout.specs.Items.Each.{each-none, each-more}
 use Rattle.layout.specs.Items.Tail.{noneOpen, brokenInside, brokenOwed}
 use Rattle.layout.specs.Items.SoundTail.{sound-inside, sound-owed}
 use Rattle.layout.specs.Items.Token.{piece, groupEnd}
-use Rattle.layout.specs.Layout.{Image, Pictures, Run, Lays, userData, entriesOf}
+use Rattle.layout.specs.Layout.{Image, Pictures, Run, Lays, userData, b4After, entriesOf}
 use Rattle.layout.specs.Layout.Run.{run-none, run-more}
 use Rattle.layout.specs.Accepting.{Accepts, Lent, lentTo}
 use Rattle.layout.specs.Accepting.Accepts.{accepts-none, accepts-more}
@@ -74,16 +74,17 @@ pub record At (s : Reader) : Type 0 where
   pub opens : Open (standAt (s .phase)) (s .sum)
 
 -- One group that is read: the state that it leaves, and where the tokens behind it lead to.
-pub record Read (s : Reader) (g : Image) (room : ℕ) (to : Stand) (n : ℕ) (rest : List Token) : Type 0 where
+pub record Read (s : Reader) (g : Image) (room plain : ℕ) (to : Stand) (n : ℕ) (rest : List Token) : Type 0 where
   pub left : Reader
   pub answers : readCall s (g .bytes) (g .number) (g .entries) room ≡ answer.Accepted left
   pub goes : Walk to n (standAt (left .phase)) (left .sum) rest
   pub at : At left
   pub sizes : left .size ≡ s .size
   pub nexts : left .next ≡ suc (s .next)
+  pub warns : b4Kept (left .warned) (b4After plain) ≡ true
 
 module _ {s : Reader} {plain room : ℕ} {ps : List Piece} {g : Image} (at : At s) (low : s .next ≤ lastNumber) (number : g .number ≡ s .next) (f : Pictures (s .size) plain ps g)
-    (fits : 3 * g .entries ≤ room) where
+    (fits : 3 * g .entries ≤ room) (warned : b4Kept (s .warned) (b4After plain) ≡ true) where
   ready : Ready s (length (g .bytes)) (g .number) (g .entries) room
   ready =
       record {
@@ -97,8 +98,8 @@ module _ {s : Reader} {plain room : ℕ} {ps : List Piece} {g : Image} (at : At 
       }
 
   -- .. where its scan reaches the end.
-  read-from : {to : Stand} {n : ℕ} {rest : List Token} (es : List Entry) → entriesBelow (g .bytes) (s .size - informationLength) (g .entries) ≡ es →
-      Reaches (s .size) (entryOffset (s .size) (g .entries)) es 1 (opening s) to n rest → Read s g room to n rest
+  read-from : {to : Stand} {n left : ℕ} {rest : List Token} (es : List Entry) → entriesBelow (g .bytes) (s .size - informationLength) (g .entries) ≡ es →
+      Reaches (s .size) (entryOffset (s .size) (g .entries)) es 1 (opening s) left to n rest → Read s g room left to n rest
   unfolding groupScan
   read-from es back r =
       record {
@@ -108,12 +109,13 @@ module _ {s : Reader} {plain room : ℕ} {ps : List Piece} {g : Image} (at : At 
         at = record { least = at .least; most = at .most; some = omega arith; opens = r .opens };
         sizes = refl;
         nexts = omega arith;
+        warns = r .warns;
       }
 
-  read-group : {to : Stand} {n : ℕ} (rest : List Token) → Walk to n (standAt (s .phase)) (s .sum) (map piece ps ++ (groupEnd ∷ rest)) → Read s g room to n rest
+  read-group : {to : Stand} {n : ℕ} (rest : List Token) → Walk to n (standAt (s .phase)) (s .sum) (map piece ps ++ (groupEnd ∷ rest)) → Read s g room (plain - g .entries) to n rest
   read-group rest w =
       read-from (entriesOf plain (s .size - length (userData ps)) ps) (entries-back f (omega (arith, at .most)) ((past ps rest w) .small))
-      (scan-pieces (s .size) (entryOffset (s .size) (g .entries)) ps plain (s .size - length (userData ps)) 1 (opening s) rest refl (omega (arith, adds-up f, f .counted)) (omega arith) (at .opens) w)
+      (scan-pieces (s .size) (entryOffset (s .size) (g .entries)) ps plain (plain - g .entries) (s .size - length (userData ps)) 1 (opening s) rest warned (ap (λ (n : ℕ). plain - n) (f .counted)) (omega (arith, adds-up f, f .counted)) (omega arith) (at .opens) w)
 
 -- A run that is accepted with these row buffers, and how it stands at its end.
 pub record AcceptedTo (s : Reader) (run : List Image) (lent : List (List ℕ)) (to : Stand) (n : ℕ) : Type 0 where
@@ -140,22 +142,22 @@ accepted-on old e a =
 ends : {to at : Stand} {n s : ℕ} → Walk to n at s [] → (at ≡ to) × (s ≡ n)
 ends stop = (refl, refl)
 
-pub accepts-run : {to : Stand} {n size number : ℕ} {groups : List (List Piece)} {run : List Image} {lent : List (List ℕ)} (s : Reader) → At s → s .size ≡ size → s .next ≡ number →
-    Run size number groups run → Lent run lent → Walk to n (standAt (s .phase)) (s .sum) (grouped groups) → AcceptedTo s run lent to n
+pub accepts-run : {to : Stand} {n size plain number : ℕ} {groups : List (List Piece)} {run : List Image} {lent : List (List ℕ)} (s : Reader) → At s → s .size ≡ size → s .next ≡ number →
+    b4Kept (s .warned) (b4After plain) ≡ true → Run size plain number groups run → Lent run lent → Walk to n (standAt (s .phase)) (s .sum) (grouped groups) → AcceptedTo s run lent to n
 unfolding grouped lentTo
-accepts-run s at e m run-none lent-none w =
+accepts-run s at e m b run-none lent-none w =
     let (p, q) = ends w in
     record { rows = []; final = s; accepts = accepts-none; buffers = refl; stand = p; sum = q }
-accepts-run s at e m (run-more {plain} {ps} {pss} {g} i j f r) (lent-more {old} fits more) w =
-    let q = read-group {plain = plain} {room = length old} {ps = ps} {g = g} at (omega arith) (omega arith) (rw e f) fits (grouped pss) w in
-    accepted-on old (q .answers) (accepts-run (q .left) (q .at) (q .sizes ∙ e) (q .nexts ∙ ap suc m) r more (q .goes))
+accepts-run s at e m b (run-more {plain} {ps} {pss} {g} i j f r) (lent-more {old} fits more) w =
+    let q = read-group {plain = plain} {room = length old} {ps = ps} {g = g} at (omega arith) (omega arith) (rw e f) fits b (grouped pss) w in
+    accepted-on old (q .answers) (accepts-run (q .left) (q .at) (q .sizes ∙ e) (q .nexts ∙ ap suc m) (q .warns) r more (q .goes))
 
 pub complete-to : {size first : ℕ} {i : List Item} {b : List ℕ} {run : List Image} {lent : List (List ℕ)} (l : Lays size first i b run) → Lent run lent →
     AcceptedTo (fresh size first) run lent (tailStand (l .tail)) (tailSum (l .tail))
 complete-to {size} {first} l lent =
     let (least, most) = within 64 size 126632 (l .sized) in
     let (some, last) = within 1 first lastNumber (l .numbered) in
-    accepts-run (fresh size first) (record { least = least; most = most; some = some; opens = o-free }) refl refl (l .images) lent (walk-of l)
+    accepts-run (fresh size first) (record { least = least; most = most; some = some; opens = o-free }) refl refl refl (l .images) lent (walk-of l)
 
 -- The sum at the end is the length of what is open, and the phase is free where nothing is.
 pub tail-sum : (t : Tail) → tailSum t ≡ length (soFar t)

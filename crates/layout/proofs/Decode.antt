@@ -1,6 +1,6 @@
 -- The entries read from a group that pictures pieces are the entries of those pieces, and the group's rows give the pieces back.
 -- Assumes nothing.
-use Prim.Native.Nat.{ℕ, suc, _+_, _*_, _-_, _≤_}
+use Prim.Native.Nat.{ℕ, zero, suc, _+_, _*_, _-_, _≤_}
 use native.Mathlib.Omega.{arith}
 use mathlib.Core.List.{List, [], _∷_, _++_, append-assoc}
 use mathlib.Core.Path.{_≡_, refl, ap}
@@ -24,6 +24,12 @@ use Rattle.layout.specs.Reading.{pieceOf, piecesFrom}
 -- A piece whose count three bytes hold.
 abbrev pub SmallPiece : Piece → Type 0
 SmallPiece p = countOf p ≤ longestRecord
+
+-- In how many entries b4 is still clear, further on.
+pub plain-past : (plain n : ℕ) → plainLeft plain - n ≡ plain - suc n
+unfolding plainLeft
+plain-past zero n = omega arith
+plain-past (suc plain) n = omega arith
 
 pub length-entries : (plain over : ℕ) (ps : List Piece) → length (entriesOf plain over ps) ≡ suc (length ps)
 unfolding entriesOf

@@ -3,19 +3,26 @@
 use Prim.Native.Nat.{ℕ}
 use native.Mathlib.Omega.{arith}
 use mathlib.Core.List.{List}
+use mathlib.Core.Bool.{Bool}
 use mathlib.Core.Path.{_≡_, refl, sym, ap, _∙_}
 use lib.ListN.{length}
 use Rattle.group.specs.declared.Phase.{Phase}
 use Rattle.group.specs.declared.Phase.the-variants as phase
+use Rattle.group.specs.Sizes.{entryOffset}
+use Rattle.group.specs.Flags.{b4Of}
+use Rattle.group.specs.Entries.{entryAt}
 use Rattle.entry.specs.Rules.{standAt}
 use Rattle.reader.specs.declared.Reader.{Reader}
 use Rattle.reader.specs.Answer.{fresh}
+use Rattle.reader.proofs.Accepted.{accepted}
+use Rattle.reader.proofs.Warned.{left-by-skip}
 use Rattle.layout.specs.Items.{Item, Piece, Tail}
 use Rattle.layout.specs.Items.Tail.{noneOpen, brokenInside, brokenOwed}
 use Rattle.layout.specs.Layout.{Image, Lays}
 use Rattle.layout.specs.Accepting.{Accepts}
+use Rattle.layout.specs.Accepting.Accepts.{accepts-none, accepts-more}
 use Rattle.layout.specs.Reading.{phaseAfter}
-use Rattle.layout.specs.Stated.{EndsWith}
+use Rattle.layout.specs.Stated.{EndsWith, b4Left}
 use Rattle.layout.proofs.Grammar.{tailStand}
 use Rattle.layout.proofs.Assembled.{phaseOfTail, phase-of-tokens}
 use Rattle.layout.proofs.Complete.{complete-to, tail-sum, tail-free}
@@ -34,6 +41,16 @@ tail-phase phase.Owed noneOpen e = let z : _≡_ {A = ℕ} 0 1 = cc in absurd (o
 tail-phase phase.Owed (brokenInside p ps) e = let z : _≡_ {A = ℕ} 0 1 = cc in absurd (omega arith)
 tail-phase phase.Owed (brokenOwed p ps q) e = refl
 
+-- Each group leaves b4 as its skip has it.
+b4-after : {size : ℕ} {s t : Reader} {run : List Image} {rows : List (List ℕ)} → s .size ≡ size → Accepts s run rows t → t .warned ≡ b4Left size (s .warned) run
+unfolding b4Left
+b4-after z accepts-none = refl
+b4-after {size} z (accepts-more {s} {t} {g} {gs} old e a) =
+    let same : t .size ≡ size = ap (λ (r : Reader). r .size) ((accepted s t (g .bytes) (g .number) (g .entries) (length old) e) .left) ∙ z in
+    b4-after same a
+    ∙ ap (λ (b : Bool). b4Left size b gs) (left-by-skip s t (g .bytes) (g .number) (g .entries) (length old) e)
+    ∙ ap (λ (n : ℕ). b4Left size (b4Of (entryAt (g .bytes) (entryOffset n (g .entries)) .flag)) gs) z
+
 pub ends-with : {size first : ℕ} {i : List Item} {b : List ℕ} {run : List Image} {rows : List (List ℕ)} {final : Reader} →
     Lays size first i b run → Accepts (fresh size first) run rows final → EndsWith size first run rows b final
 ends-with {run} {final} l a =
@@ -46,4 +63,5 @@ ends-with {run} {final} l a =
       stands = tail-phase (final .phase) (l .tail) stand ∙ sym (phase-of-tokens (l .laid) (l .tail)) ∙ ap (λ (ps : List Piece). phaseAfter phase.Free ps) (sym (pieces-laid l a));
       free = rw (l .breaks) at (tail-free (final .phase) (l .tail) (l .soundTail) stand);
       sum = ap (λ (r : Reader). r .sum) (sym same) ∙ c .sum ∙ tail-sum (l .tail) ∙ ap length (l .breaks);
+      b4 = b4-after refl a;
     }

@@ -3,6 +3,7 @@
 use Prim.Native.Nat.{ℕ, _+_, _≤_}
 use native.Mathlib.Omega.{arith}
 use mathlib.Core.List.{List, [], _∷_, _++_, map, append-nil, append-assoc}
+use mathlib.Core.Bool.{false}
 use mathlib.Core.Path.{_≡_, refl, sym, ap, _∙_, subst}
 use lib.ListN.{length, take-append-drop}
 use Rattle.laying.proofs.Starts.{begun-at}
@@ -39,6 +40,8 @@ use Rattle.layout.proofs.OnlyOne.{reading-is}
 use Rattle.layout.proofs.Ending.{ends-with}
 use Rattle.layout.proofs.Sound.{lays-run}
 use Rattle.layout.proofs.Buffer.{buffered-fresh, buffered-changed}
+use Rattle.layout.proofs.Held.{closed-run}
+use Rattle.layout.proofs.Held.Begins.{not-yet}
 use Rattle.layout.proofs.Accounts.{Hand, Kept, Said, after-call, as-given, as-came}
 
 -- A writing was started.
@@ -73,10 +76,11 @@ kept-changed information i k =
             groups = h .groups;
             pieces = h .pieces;
             numbered = h .numbered;
-            images = h .images;
             walks = h .walks;
             finishes = h .finishes;
             breaks = h .breaks;
+            before = h .before;
+            begins = h .begins;
             stands = buffered-changed information i (h .stands);
           };
       hand = k .hand;
@@ -96,7 +100,7 @@ kept-fresh {size} {first} h e =
     let l : informationLength ≤ size = omega arith in
     record {
       sized = refl;
-      holds = record { groups = []; pieces = []; numbered = n; images = run-none; walks = stop; finishes = refl; breaks = refl; stands = buffered-fresh l e };
+      holds = record { groups = []; pieces = []; numbered = n; walks = stop; finishes = refl; breaks = refl; before = false; begins = not-yet (λ more. run-none); stands = buffered-fresh false l e };
       hand = refl;
     }
 
@@ -117,7 +121,8 @@ kept (changed information x i) = kept-changed information i (kept x)
 -- At the last close, or at the start: the groups of the run, the phase that they leave, and the account.
 pub record AtClose (size first : ℕ) (run : List Image) (a : Account) : Type 0 where
   pub groups : List (List Piece)
-  pub images : Run size first groups run
+  pub plain : ℕ
+  pub images : Run size plain first groups run
   pub phase : Phase
   pub sum : ℕ
   pub walks : Walk (standAt phase) sum stand.Free 0 (grouped groups)
@@ -136,9 +141,11 @@ whole {size} {first} {w} {run} {a} k e =
     let n : h .pieces ≡ [] = none-left (h .pieces) (sym (h .stands .counted) ∙ e) in
     let j : grouped (h .groups) ++ map piece (h .pieces) ≡ grouped (h .groups) = rw (n, append-nil) in
     let f : flat (h .groups) ++ h .pieces ≡ flat (h .groups) = rw (n, append-nil) in
+    let c = closed-run (h .begins) in
     record {
       groups = h .groups;
-      images = subst (λ (s : ℕ). Run s first (h .groups) run) (k .sized) (h .images);
+      plain = c .plain;
+      images = subst (λ (s : ℕ). Run s (c .plain) first (h .groups) run) (k .sized) (c .images);
       phase = w .state .phase;
       sum = w .state .sum;
       walks = rw j at (h .walks);

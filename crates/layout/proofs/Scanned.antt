@@ -4,7 +4,7 @@ use Prim.Native.Nat.{ℕ, zero, suc, _+_, _-_, _≤_}
 use native.Mathlib.Omega.{arith}
 use mathlib.Core.List.{List, [], _∷_, _++_, map}
 use mathlib.Core.Bool.{Bool, true, false, cond, not}
-use mathlib.Core.Path.{_≡_, refl, ap, _∙_}
+use mathlib.Core.Path.{_≡_, refl, sym, ap, _∙_}
 use lib.ListN.{length, length-append}
 use lib.Dec.{eqb}
 use borrow.Author.Tests.{le-leb, eq-eqb}
@@ -27,7 +27,7 @@ use Rattle.layout.specs.Items.Token.{piece, groupEnd}
 use Rattle.layout.specs.Layout.{kindOf, countOf, dataOf, userData, b4After, plainLeft, entriesOf}
 use Rattle.layout.proofs.Grammar.{Fits, Walk, Open, take-piece, take-end}
 use Rattle.layout.proofs.Grammar.Walk.{step, leap}
-use Rattle.layout.proofs.Decode.{data-after}
+use Rattle.layout.proofs.Decode.{plain-past, data-after}
 
 -- No piece is a skip.
 pub no-skip : (p : Piece) → isSkip (kindOf p) ≡ false
@@ -44,6 +44,14 @@ still : (plain : ℕ) → b4Kept (b4After plain) (b4After (plainLeft plain)) ≡
 unfolding b4After plainLeft
 still zero = refl
 still (suc plain) = refl
+
+-- .. into the next group.
+warns-on : (plain left : ℕ) → left ≡ plain - 1 → b4Kept (b4After plain) (b4After left) ≡ true
+unfolding plainLeft
+warns-on zero left e = rw e (still zero)
+warns-on (suc plain) left e =
+    let f : left ≡ plain = omega arith in
+    rw f (still (suc plain))
 
 -- The rules of a skip and of a piece, kept.
 skip-kept : (size limit : ℕ) (c : Cursor) (warned : Bool) (over : ℕ) → b4Kept (c .warned) warned ≡ true → mayFollow (c .stand) Skip ≡ true → c .reached ≤ limit → over ≡ size - c .reached →
@@ -75,32 +83,33 @@ unfolding scan
 scan-on size limit es place c k warned count h = rw (meaning-of-flag k warned, no-fault size limit (isLast es) c k warned count h)
 
 -- A scan that reaches the end of the entries, and where the tokens behind it lead to.
-pub record Reaches (size limit : ℕ) (es : List Entry) (place : ℕ) (c : Cursor) (to : Stand) (n : ℕ) (rest : List Token) : Type 0 where
+pub record Reaches (size limit : ℕ) (es : List Entry) (place : ℕ) (c : Cursor) (left : ℕ) (to : Stand) (n : ℕ) (rest : List Token) : Type 0 where
   pub end : Cursor
   pub scans : scan size limit es place c ≡ Reached end
   pub goes : Walk to n (standAt (phaseAfter (end .stand))) (end .sum) rest
   pub opens : Open (standAt (phaseAfter (end .stand))) (end .sum)
+  pub warns : b4Kept (end .warned) (b4After left) ≡ true
 
 is-last : (plain over : ℕ) (ps : List Piece) → isLast (entriesOf plain over ps) ≡ false
 unfolding entriesOf
 is-last plain over [] = refl
 is-last plain over (p ∷ ps) = refl
 
-reach-on : {to : Stand} {n size limit place : ℕ} {es : List Entry} {rest : List Token} {c : Cursor} (k : Kind) (warned : Bool) (count : ℕ) → Kept size limit (isLast es) c k warned count →
-    Reaches size limit es (suc place) (advance c k warned count) to n rest → Reaches size limit (entry (flagOf k warned) count ∷ es) place c to n rest
+reach-on : {to : Stand} {n size limit place left : ℕ} {es : List Entry} {rest : List Token} {c : Cursor} (k : Kind) (warned : Bool) (count : ℕ) → Kept size limit (isLast es) c k warned count →
+    Reaches size limit es (suc place) (advance c k warned count) left to n rest → Reaches size limit (entry (flagOf k warned) count ∷ es) place c left to n rest
 reach-on {size} {limit} {place} {es} {c} k warned count h r =
-    record { end = r .end; scans = scan-on size limit es place c k warned count h ∙ r .scans; goes = r .goes; opens = r .opens }
+    record { end = r .end; scans = scan-on size limit es place c k warned count h ∙ r .scans; goes = r .goes; opens = r .opens; warns = r .warns }
 
-pub scan-pieces : {to : Stand} {n : ℕ} (size limit : ℕ) (ps : List Piece) (plain over place : ℕ) (c : Cursor) (rest : List Token) →
-    b4Kept (c .warned) (b4After plain) ≡ true → c .reached + length (userData ps) ≤ limit → over ≡ size - (c .reached + length (userData ps)) →
-    Open (c .stand) (c .sum) → Walk to n (c .stand) (c .sum) (map piece ps ++ (groupEnd ∷ rest)) → Reaches size limit (entriesOf plain over ps) place c to n rest
+pub scan-pieces : {to : Stand} {n : ℕ} (size limit : ℕ) (ps : List Piece) (plain left over place : ℕ) (c : Cursor) (rest : List Token) →
+    b4Kept (c .warned) (b4After plain) ≡ true → left ≡ plain - suc (length ps) → c .reached + length (userData ps) ≤ limit → over ≡ size - (c .reached + length (userData ps)) →
+    Open (c .stand) (c .sum) → Walk to n (c .stand) (c .sum) (map piece ps ++ (groupEnd ∷ rest)) → Reaches size limit (entriesOf plain over ps) place c left to n rest
 unfolding scan entriesOf userData
-scan-pieces size limit [] plain over place c rest w l o open′ (leap h g) =
+scan-pieces size limit [] plain left over place c rest w z l o open′ (leap h g) =
     reach-on Skip (b4After plain) over (skip-kept size limit c (b4After plain) over w h (omega arith) (omega (arith, o)))
-    (record { end = advance c Skip (b4After plain) over; scans = refl; goes = g; opens = (take-end size open′ h) .opens })
-scan-pieces size limit (p ∷ ps) plain over place c rest w l o open′ (step f g) =
+    (record { end = advance c Skip (b4After plain) over; scans = refl; goes = g; opens = (take-end size open′ h) .opens; warns = warns-on plain left z })
+scan-pieces size limit (p ∷ ps) plain left over place c rest w z l o open′ (step f g) =
     let u : length (dataOf p ++ userData ps) ≡ length (dataOf p) + length (userData ps) = length-append (dataOf p) (userData ps) in
     let v : reachedAfter (kindOf p) (c .reached) (countOf p) ≡ c .reached + length (dataOf p) = data-after p (c .reached) in
     let kept : Kept size limit false c (kindOf p) (b4After plain) (countOf p) = piece-kept size limit c (b4After plain) p w f (omega arith) in
     reach-on (kindOf p) (b4After plain) (countOf p) (rw (is-last (plainLeft plain) over ps) kept)
-    (scan-pieces size limit ps (plainLeft plain) over (suc place) (advance c (kindOf p) (b4After plain) (countOf p)) rest (still plain) (omega arith) (omega arith) ((take-piece size open′ p f) .opens) g)
+    (scan-pieces size limit ps (plainLeft plain) left over (suc place) (advance c (kindOf p) (b4After plain) (countOf p)) rest (still plain) (z ∙ sym (plain-past plain (suc (length ps)))) (omega arith) (omega arith) ((take-piece size open′ p f) .opens) g)

@@ -71,27 +71,24 @@ pictured number plain ps h =
       stands = refl;
     }
 
--- Groups, each with how many of its entries come before b4, numbered from `number` on.
-unfoldable pub runOf : ℕ → List (ℕ × List Piece) → List Image
-runOf number [] = []
-runOf number (g ∷ gs) = groupOf number (g .0) (g .1) ∷ runOf (suc number) gs
-
-abbrev piecesOfEach : List (ℕ × List Piece) → List (List Piece)
-piecesOfEach [] = []
-piecesOfEach (g ∷ gs) = g .1 ∷ piecesOfEach gs
+-- Groups, numbered from `number` on; b4 is clear in the first `plain` entries of them all. No run here has 99, so at 99 it is never
+-- set.
+unfoldable pub runOf : ℕ → ℕ → List (List Piece) → List Image
+runOf number plain [] = []
+runOf number plain (g ∷ gs) = groupOf number plain g ∷ runOf (suc number) (plain - suc (length g)) gs
 
 -- Each has room in 64 bytes, and there are numbers enough.
-unfoldable pub fitting : ℕ → List (ℕ × List Piece) → Bool
+unfoldable pub fitting : ℕ → List (List Piece) → Bool
 fitting number [] = true
-fitting number (g ∷ gs) = leb number lastNumber && (leb (length (userData (g .1)) + 4 * suc (length (g .1))) 32 && fitting (suc number) gs)
+fitting number (g ∷ gs) = leb number lastNumber && (leb (length (userData g) + 4 * suc (length g)) 32 && fitting (suc number) gs)
 
-run-of : (number : ℕ) (gs : List (ℕ × List Piece)) → fitting number gs ≡ true → Run 64 number (piecesOfEach gs) (runOf number gs)
+run-of : (number plain : ℕ) (gs : List (List Piece)) → fitting number gs ≡ true → Run 64 plain number gs (runOf number plain gs)
 unfolding runOf fitting groupOf
-run-of number [] h = run-none
-run-of number (g ∷ gs) h =
-    let a = both (leb number lastNumber) (leb (length (userData (g .1)) + 4 * suc (length (g .1))) 32 && fitting (suc number) gs) h in
-    let b = both (leb (length (userData (g .1)) + 4 * suc (length (g .1))) 32) (fitting (suc number) gs) (a .1) in
-    run-more (leb-true number lastNumber (a .0)) refl (pictured number (g .0) (g .1) (leb-true (length (userData (g .1)) + 4 * suc (length (g .1))) 32 (b .0))) (run-of (suc number) gs (b .1))
+run-of number plain [] h = run-none
+run-of number plain (g ∷ gs) h =
+    let a = both (leb number lastNumber) (leb (length (userData g) + 4 * suc (length g)) 32 && fitting (suc number) gs) h in
+    let b = both (leb (length (userData g) + 4 * suc (length g)) 32) (fitting (suc number) gs) (a .1) in
+    run-more (leb-true number lastNumber (a .0)) refl (pictured number plain g (leb-true (length (userData g) + 4 * suc (length g)) 32 (b .0))) (run-of (suc number) (plain - suc (length g)) gs (b .1))
 
 -- A lawful layout that takes these freedoms, its acceptance, and what its rows give.
 pub record Shown (laid : List Laid) (tail : Tail) (run : List Image) (final : Reader) : Type 0 where
@@ -107,9 +104,9 @@ unfolding opens
 starts = refl
 
 shown : {laid : List Laid} {tail : Tail} {run : List Image} {rows : List (List ℕ)} {final : Reader} (groups : List (List Piece)) → Each (SoundLaid 64) laid → SoundTail 64 tail →
-    tokens laid tail ≡ grouped groups → Run 64 1 groups run → Accepts (fresh 64 1) run rows final → itemsRead run rows ≡ items laid → begunRead run rows ≡ soFar tail →
+    tokens laid tail ≡ grouped groups → {plain : ℕ} → Run 64 plain 1 groups run → Accepts (fresh 64 1) run rows final → itemsRead run rows ≡ items laid → begunRead run rows ≡ soFar tail →
     Shown laid tail run final
-shown {laid} {tail} {rows} groups sound soundTail groupsOf images accepts i b =
+shown {laid} {tail} {rows} groups sound soundTail groupsOf {plain} images accepts i b =
     record {
       lays = record {
         sized = refl;
@@ -117,6 +114,7 @@ shown {laid} {tail} {rows} groups sound soundTail groupsOf images accepts i b =
         laid = laid;
         tail = tail;
         groups = groups;
+        plain = plain;
         sound = sound;
         soundTail = soundTail;
         finishes = refl;
@@ -132,14 +130,17 @@ shown {laid} {tail} {rows} groups sound soundTail groupsOf images accepts i b =
     }
 
 -- The same of groups made here.
-made : {laid : List Laid} {tail : Tail} {rows : List (List ℕ)} {final : Reader} (groups : List (ℕ × List Piece)) → Each (SoundLaid 64) laid → SoundTail 64 tail →
-    tokens laid tail ≡ grouped (piecesOfEach groups) → fitting 1 groups ≡ true → Accepts (fresh 64 1) (runOf 1 groups) rows final →
-    itemsRead (runOf 1 groups) rows ≡ items laid → begunRead (runOf 1 groups) rows ≡ soFar tail → Shown laid tail (runOf 1 groups) final
-made groups sound soundTail groupsOf fits = shown (piecesOfEach groups) sound soundTail groupsOf (run-of 1 groups fits)
+made : {laid : List Laid} {tail : Tail} {rows : List (List ℕ)} {final : Reader} (plain : ℕ) (groups : List (List Piece)) → Each (SoundLaid 64) laid → SoundTail 64 tail →
+    tokens laid tail ≡ grouped groups → fitting 1 groups ≡ true → Accepts (fresh 64 1) (runOf 1 plain groups) rows final →
+    itemsRead (runOf 1 plain groups) rows ≡ items laid → begunRead (runOf 1 plain groups) rows ≡ soFar tail → Shown laid tail (runOf 1 plain groups) final
+made plain groups sound soundTail groupsOf fits = shown groups sound soundTail groupsOf (run-of 1 plain groups fits)
 
--- A state between groups, and rows of other numbers, more than are asked for.
+-- A state between groups, with b4 and without, and rows of other numbers, more than are asked for.
+abbrev atWarned : Bool → ℕ → Phase → ℕ → Reader
+atWarned warned next p sum = record { size = 64; next = next; phase = p; warned = warned; sum = sum }
+
 abbrev at : ℕ → Phase → ℕ → Reader
-at next p sum = record { size = 64; next = next; phase = p; sum = sum }
+at next p sum = atWarned false next p sum
 
 abbrev old : List ℕ
 old = replicate 30 5
@@ -175,60 +176,60 @@ mixed = anEntire (1 ∷ 2 ∷ 3 ∷ []) ∷ aSeparator 0 ∷ aSeparator 1 ∷ []
 abbrev mixed-laid : List Laid
 mixed-laid = laidEntire (1 ∷ 2 ∷ 3 ∷ []) ∷ laidSeparator 0 ∷ laidSeparator 1 ∷ endedEarly ∷ []
 
-mixed-shown : (plain : ℕ) {rows : List (List ℕ)} → Accepts (fresh 64 1) (runOf 1 ((plain, mixed) ∷ [])) rows (at 2 phase.Free 0) →
-    itemsRead (runOf 1 ((plain, mixed) ∷ [])) rows ≡ items mixed-laid → begunRead (runOf 1 ((plain, mixed) ∷ [])) rows ≡ [] → Shown mixed-laid noneOpen (runOf 1 ((plain, mixed) ∷ [])) (at 2 phase.Free 0)
+mixed-shown : (plain : ℕ) (warned : Bool) {rows : List (List ℕ)} → Accepts (fresh 64 1) (runOf 1 plain (mixed ∷ [])) rows (atWarned warned 2 phase.Free 0) →
+    itemsRead (runOf 1 plain (mixed ∷ [])) rows ≡ items mixed-laid → begunRead (runOf 1 plain (mixed ∷ [])) rows ≡ [] → Shown mixed-laid noneOpen (runOf 1 plain (mixed ∷ [])) (atWarned warned 2 phase.Free 0)
 unfolding opens fitting
-mixed-shown plain a i b =
-    made ((plain, mixed) ∷ []) (each-more (sound-entire (lit≤ tt) (lit≤ tt)) (each-more (sound-separator (lit≤ tt)) (each-more (sound-separator (lit≤ tt)) (each-more sound-early each-none)))) sound-none
+mixed-shown plain warned a i b =
+    made plain (mixed ∷ []) (each-more (sound-entire (lit≤ tt) (lit≤ tt)) (each-more (sound-separator (lit≤ tt)) (each-more (sound-separator (lit≤ tt)) (each-more sound-early each-none)))) sound-none
     refl refl a i b
 
 -- Entire, separators of both values, an early end; b4 never set.
-pub entire-shown : Shown mixed-laid noneOpen (runOf 1 ((9, mixed) ∷ [])) (at 2 phase.Free 0)
+pub entire-shown : Shown mixed-laid noneOpen (runOf 1 9 (mixed ∷ [])) (at 2 phase.Free 0)
 unfolding opens groupOf runOf
-entire-shown = mixed-shown 9 (accepts-more {t = at 2 phase.Free 0} old refl accepts-none) refl refl
+entire-shown = mixed-shown 9 false (accepts-more {t = at 2 phase.Free 0} old refl accepts-none) refl refl
 
 -- b4 beginning at each entry of a group in turn, the last time at its skip.
-pub b4-shown : Each (λ (plain : ℕ). Shown mixed-laid noneOpen (runOf 1 ((plain, mixed) ∷ [])) (at 2 phase.Free 0)) (0 ∷ 1 ∷ 2 ∷ 3 ∷ [])
+pub b4-shown : Each (λ (plain : ℕ). Shown mixed-laid noneOpen (runOf 1 plain (mixed ∷ [])) (atWarned true 2 phase.Free 0)) (0 ∷ 1 ∷ 2 ∷ 3 ∷ [])
 unfolding opens groupOf runOf
 b4-shown =
-    each-more (mixed-shown 0 (accepts-more {t = at 2 phase.Free 0} old refl accepts-none) refl refl)
-    (each-more (mixed-shown 1 (accepts-more {t = at 2 phase.Free 0} old refl accepts-none) refl refl)
-    (each-more (mixed-shown 2 (accepts-more {t = at 2 phase.Free 0} old refl accepts-none) refl refl)
-    (each-more (mixed-shown 3 (accepts-more {t = at 2 phase.Free 0} old refl accepts-none) refl refl) each-none)))
+    each-more (mixed-shown 0 true (accepts-more {t = atWarned true 2 phase.Free 0} old refl accepts-none) refl refl)
+    (each-more (mixed-shown 1 true (accepts-more {t = atWarned true 2 phase.Free 0} old refl accepts-none) refl refl)
+    (each-more (mixed-shown 2 true (accepts-more {t = atWarned true 2 phase.Free 0} old refl accepts-none) refl refl)
+    (each-more (mixed-shown 3 true (accepts-more {t = atWarned true 2 phase.Free 0} old refl accepts-none) refl refl) each-none)))
 
--- Spanned over three groups, its total in its last part's group; b4 begins anew in each group. A record follows.
-abbrev three : List (ℕ × List Piece)
-three = (0, aStart (1 ∷ 2 ∷ []) ∷ []) ∷ (1, aMiddle (3 ∷ []) ∷ []) ∷ (2, aLast (4 ∷ 5 ∷ []) ∷ aTotal 5 ∷ anEntire (6 ∷ []) ∷ []) ∷ []
+-- Spanned over three groups, its total in its last part's group; b4 begins at the second group's skip and stays. A record follows.
+abbrev three : List (List Piece)
+three = (aStart (1 ∷ 2 ∷ []) ∷ []) ∷ (aMiddle (3 ∷ []) ∷ []) ∷ (aLast (4 ∷ 5 ∷ []) ∷ aTotal 5 ∷ anEntire (6 ∷ []) ∷ []) ∷ []
 
-pub spanned-shown : Shown (laidSpanned (1 ∷ 2 ∷ []) ((3 ∷ []) ∷ []) (4 ∷ 5 ∷ []) false ∷ laidEntire (6 ∷ []) ∷ endedEarly ∷ []) noneOpen (runOf 1 three) (at 4 phase.Free 0)
+pub spanned-shown : Shown (laidSpanned (1 ∷ 2 ∷ []) ((3 ∷ []) ∷ []) (4 ∷ 5 ∷ []) false ∷ laidEntire (6 ∷ []) ∷ endedEarly ∷ []) noneOpen (runOf 1 3 three) (atWarned true 4 phase.Free 0)
 unfolding opens groupOf runOf fitting
 spanned-shown =
-    made three
+    made 3 three
     (each-more (sound-spanned (lit≤ tt) (each-more (lit≤ tt) each-none) (lit≤ tt) (lit≤ tt) tt) (each-more (sound-entire (lit≤ tt) (lit≤ tt)) (each-more sound-early each-none))) sound-none
     refl refl
-    (accepts-more {t = at 2 phase.Inside 2} old refl (accepts-more {t = at 3 phase.Inside 3} old refl (accepts-more {t = at 4 phase.Free 0} old refl accepts-none)))
+    (accepts-more {t = at 2 phase.Inside 2} old refl (accepts-more {t = atWarned true 3 phase.Inside 3} old refl (accepts-more {t = atWarned true 4 phase.Free 0} old refl accepts-none)))
     refl refl
 
 -- A late total: a skip after the last part, and the total in the next group.
-abbrev late : List (ℕ × List Piece)
-late = (9, aStart (1 ∷ []) ∷ []) ∷ (9, aLast (2 ∷ []) ∷ []) ∷ (9, aTotal 2 ∷ []) ∷ []
+abbrev late : List (List Piece)
+late = (aStart (1 ∷ []) ∷ []) ∷ (aLast (2 ∷ []) ∷ []) ∷ (aTotal 2 ∷ []) ∷ []
 
-pub late-shown : Shown (laidSpanned (1 ∷ []) [] (2 ∷ []) true ∷ endedEarly ∷ []) noneOpen (runOf 1 late) (at 4 phase.Free 0)
+pub late-shown : Shown (laidSpanned (1 ∷ []) [] (2 ∷ []) true ∷ endedEarly ∷ []) noneOpen (runOf 1 99 late) (at 4 phase.Free 0)
 unfolding opens groupOf runOf fitting
 late-shown =
-    made late (each-more (sound-spanned (lit≤ tt) each-none (lit≤ tt) (lit≤ tt) tt) (each-more sound-early each-none)) sound-none
+    made 99 late (each-more (sound-spanned (lit≤ tt) each-none (lit≤ tt) (lit≤ tt) tt) (each-more sound-early each-none)) sound-none
     refl refl
     (accepts-more {t = at 2 phase.Inside 1} old refl (accepts-more {t = at 3 phase.Owed 2} old refl (accepts-more {t = at 4 phase.Free 0} old refl accepts-none)))
     refl refl
 
 -- Early ends: empty groups, first and last, and one between.
-abbrev early : List (ℕ × List Piece)
-early = (0, []) ∷ (9, anEntire (1 ∷ []) ∷ []) ∷ (1, []) ∷ (9, aSeparator 0 ∷ []) ∷ (9, []) ∷ []
+abbrev early : List (List Piece)
+early = [] ∷ (anEntire (1 ∷ []) ∷ []) ∷ [] ∷ (aSeparator 0 ∷ []) ∷ [] ∷ []
 
-pub early-shown : Shown (endedEarly ∷ laidEntire (1 ∷ []) ∷ endedEarly ∷ endedEarly ∷ laidSeparator 0 ∷ endedEarly ∷ endedEarly ∷ []) noneOpen (runOf 1 early) (at 6 phase.Free 0)
+pub early-shown : Shown (endedEarly ∷ laidEntire (1 ∷ []) ∷ endedEarly ∷ endedEarly ∷ laidSeparator 0 ∷ endedEarly ∷ endedEarly ∷ []) noneOpen (runOf 1 99 early) (at 6 phase.Free 0)
 unfolding opens groupOf runOf fitting
 early-shown =
-    made early
+    made 99 early
     (each-more sound-early (each-more (sound-entire (lit≤ tt) (lit≤ tt)) (each-more sound-early (each-more sound-early (each-more (sound-separator (lit≤ tt)) (each-more sound-early (each-more sound-early each-none))))))) sound-none
     refl refl
     (accepts-more {t = at 2 phase.Free 0} old refl (accepts-more {t = at 3 phase.Free 0} old refl (accepts-more {t = at 4 phase.Free 0} old refl
@@ -236,38 +237,38 @@ early-shown =
     refl refl
 
 -- Broken off inside a record, after a separator.
-abbrev inside : List (ℕ × List Piece)
-inside = (9, aSeparator 1 ∷ aStart (1 ∷ []) ∷ []) ∷ (9, aMiddle (2 ∷ 3 ∷ []) ∷ []) ∷ []
+abbrev inside : List (List Piece)
+inside = (aSeparator 1 ∷ aStart (1 ∷ []) ∷ []) ∷ (aMiddle (2 ∷ 3 ∷ []) ∷ []) ∷ []
 
-pub inside-shown : Shown (laidSeparator 1 ∷ []) (brokenInside (1 ∷ []) ((2 ∷ 3 ∷ []) ∷ [])) (runOf 1 inside) (at 3 phase.Inside 3)
+pub inside-shown : Shown (laidSeparator 1 ∷ []) (brokenInside (1 ∷ []) ((2 ∷ 3 ∷ []) ∷ [])) (runOf 1 99 inside) (at 3 phase.Inside 3)
 unfolding opens groupOf runOf fitting
 inside-shown =
-    made inside (each-more (sound-separator (lit≤ tt)) each-none) (sound-inside (lit≤ tt) (each-more (lit≤ tt) each-none) (lit≤ tt))
+    made 99 inside (each-more (sound-separator (lit≤ tt)) each-none) (sound-inside (lit≤ tt) (each-more (lit≤ tt) each-none) (lit≤ tt))
     refl refl
     (accepts-more {t = at 2 phase.Inside 1} old refl (accepts-more {t = at 3 phase.Inside 3} old refl accepts-none))
     refl refl
 
 -- A total owed at the end.
-abbrev owed : List (ℕ × List Piece)
-owed = (9, aStart (1 ∷ []) ∷ []) ∷ (9, aLast (2 ∷ []) ∷ []) ∷ []
+abbrev owed : List (List Piece)
+owed = (aStart (1 ∷ []) ∷ []) ∷ (aLast (2 ∷ []) ∷ []) ∷ []
 
-pub owed-shown : Shown [] (brokenOwed (1 ∷ []) [] (2 ∷ [])) (runOf 1 owed) (at 3 phase.Owed 2)
+pub owed-shown : Shown [] (brokenOwed (1 ∷ []) [] (2 ∷ [])) (runOf 1 99 owed) (at 3 phase.Owed 2)
 unfolding opens groupOf runOf fitting
 owed-shown =
-    made owed each-none (sound-owed (lit≤ tt) each-none (lit≤ tt) (lit≤ tt) tt)
+    made 99 owed each-none (sound-owed (lit≤ tt) each-none (lit≤ tt) (lit≤ tt) tt)
     refl refl
     (accepts-more {t = at 2 phase.Inside 1} old refl (accepts-more {t = at 3 phase.Owed 2} old refl accepts-none))
     refl refl
 
 -- "only the number tells equal middles apart": a record with two middles of one length, whatever their bytes. So where x y and
 -- z w change places and their groups are numbered anew, the run is accepted as another record ..
-abbrev pub equalMiddles : ℕ → ℕ → ℕ → ℕ → List (ℕ × List Piece)
-equalMiddles x y z w = (9, aStart (1 ∷ []) ∷ []) ∷ (9, aMiddle (x ∷ y ∷ []) ∷ []) ∷ (9, aMiddle (z ∷ w ∷ []) ∷ []) ∷ (9, aLast (4 ∷ []) ∷ aTotal 6 ∷ []) ∷ []
+abbrev pub equalMiddles : ℕ → ℕ → ℕ → ℕ → List (List Piece)
+equalMiddles x y z w = (aStart (1 ∷ []) ∷ []) ∷ (aMiddle (x ∷ y ∷ []) ∷ []) ∷ (aMiddle (z ∷ w ∷ []) ∷ []) ∷ (aLast (4 ∷ []) ∷ aTotal 6 ∷ []) ∷ []
 
-pub middles-shown : (x y z w : ℕ) → Shown (laidSpanned (1 ∷ []) ((x ∷ y ∷ []) ∷ (z ∷ w ∷ []) ∷ []) (4 ∷ []) false ∷ endedEarly ∷ []) noneOpen (runOf 1 (equalMiddles x y z w)) (at 5 phase.Free 0)
+pub middles-shown : (x y z w : ℕ) → Shown (laidSpanned (1 ∷ []) ((x ∷ y ∷ []) ∷ (z ∷ w ∷ []) ∷ []) (4 ∷ []) false ∷ endedEarly ∷ []) noneOpen (runOf 1 99 (equalMiddles x y z w)) (at 5 phase.Free 0)
 unfolding opens groupOf runOf fitting
 middles-shown x y z w =
-    made (equalMiddles x y z w)
+    made 99 (equalMiddles x y z w)
     (each-more (sound-spanned (lit≤ tt) (each-more (lit≤ tt) (each-more (lit≤ tt) each-none)) (lit≤ tt) (lit≤ tt) tt) (each-more sound-early each-none)) sound-none
     refl refl
     (accepts-more {t = at 2 phase.Inside 1} old refl (accepts-more {t = at 3 phase.Inside 3} old refl
@@ -275,9 +276,9 @@ middles-shown x y z w =
     refl refl
 
 -- .. and with the numbers that they bore it is refused with 5, although its total matches.
-pub exchanged-shown : (x y z w : ℕ) → OutOfOrder (fresh 64 1) (groupOf 1 9 (aStart (1 ∷ []) ∷ []) ∷ []) (groupOf 3 9 (aMiddle (z ∷ w ∷ []) ∷ []))
-    (groupOf 2 9 (aMiddle (x ∷ y ∷ []) ∷ []) ∷ groupOf 4 9 (aLast (4 ∷ []) ∷ aTotal 6 ∷ []) ∷ [])
+pub exchanged-shown : (x y z w : ℕ) → OutOfOrder (fresh 64 1) (groupOf 1 99 (aStart (1 ∷ []) ∷ []) ∷ []) (groupOf 3 95 (aMiddle (z ∷ w ∷ []) ∷ []))
+    (groupOf 2 97 (aMiddle (x ∷ y ∷ []) ∷ []) ∷ groupOf 4 93 (aLast (4 ∷ []) ∷ aTotal 6 ∷ []) ∷ [])
 unfolding runOf
 exchanged-shown x y z w =
-    exchanged 64 1 (fresh 64 1) starts (groupOf 1 9 (aStart (1 ∷ []) ∷ []) ∷ []) [] (groupOf 4 9 (aLast (4 ∷ []) ∷ aTotal 6 ∷ []) ∷ [])
-    (groupOf 2 9 (aMiddle (x ∷ y ∷ []) ∷ [])) (groupOf 3 9 (aMiddle (z ∷ w ∷ []) ∷ [])) (middles-shown x y z w .rows) (at 5 phase.Free 0) (middles-shown x y z w .accepts)
+    exchanged 64 1 (fresh 64 1) starts (groupOf 1 99 (aStart (1 ∷ []) ∷ []) ∷ []) [] (groupOf 4 93 (aLast (4 ∷ []) ∷ aTotal 6 ∷ []) ∷ [])
+    (groupOf 2 97 (aMiddle (x ∷ y ∷ []) ∷ [])) (groupOf 3 95 (aMiddle (z ∷ w ∷ []) ∷ [])) (middles-shown x y z w .rows) (at 5 phase.Free 0) (middles-shown x y z w .accepts)

@@ -21,13 +21,13 @@ use Rattle.entry.specs.declared.Stand.{Stand}
 use Rattle.entry.specs.declared.Stand.the-variants.{Free}
 use Rattle.entry.specs.declared.Cursor.{Cursor}
 use Rattle.reader.specs.declared.ReadAnswer.the-variants as answer
-use Rattle.entry.specs.Rules.{standAt}
+use Rattle.entry.specs.Rules.{standAt, b4Kept}
 use Rattle.reader.specs.Answer.{fresh, opening, closing, groupScan, readCall}
 use Rattle.reader.proofs.Accepted.{Ready, Passed, accepted}
 use Rattle.layout.specs.Items.{Piece, Token, Each, grouped, tokens}
 use Rattle.layout.specs.Items.Each.{each-more}
 use Rattle.layout.specs.Items.Token.{piece, groupEnd}
-use Rattle.layout.specs.Layout.{Image, Pictures, Run, Lays, userData, entriesOf}
+use Rattle.layout.specs.Layout.{Image, Pictures, Run, Lays, userData, b4After, entriesOf}
 use Rattle.layout.specs.Layout.Run.{run-none, run-more}
 use Rattle.layout.specs.Accepting.{Accepts}
 use Rattle.layout.specs.Accepting.Accepts.{accepts-none, accepts-more}
@@ -38,7 +38,7 @@ use Rattle.layout.proofs.Grammar.Between.{b-free, b-inside, b-owed}
 use Rattle.layout.proofs.Assembled.{piecesIn, flat, in-grouped, items-of-tokens, begun-of-tokens}
 use Rattle.layout.proofs.Decode.{length-entries}
 use Rattle.layout.proofs.OnlyOne.{pieces-read}
-use Rattle.layout.proofs.Unscanned.{Pictured, unscan}
+use Rattle.layout.proofs.Unscanned.{Pictured, none-plain, unscan}
 
 -- A group in four parts, from its table and its data.
 four-parts : (g u t : List ℕ) (top limit : ℕ) → take top g ≡ take limit g ++ t → u ≡ take (length u) g → length u ≤ limit →
@@ -65,23 +65,28 @@ pictures size plain g ps n c f h b e l s =
     }
 
 -- One group that is read.
-record GroupRead (s : Reader) (g : Image) (t : Reader) : Type 0 where
+record GroupRead (s : Reader) (g : Image) (t : Reader) (left : ℕ) : Type 0 where
   pub pieces : List Piece
   pub plain : ℕ
   pub pictured : Pictures (s .size) plain pieces g
+  pub warns : b4Kept (s .warned) (b4After plain) ≡ true
+  pub past : plain - g .entries ≡ left
   pub numbered : g .number ≡ s .next
   pub bounded : s .next ≤ lastNumber
   pub sizes : s .size ≡ t .size
   pub nexts : suc (s .next) ≡ t .next
   pub walks : (to : Stand) (n : ℕ) (rest : List Token) → Walk to n (standAt (t .phase)) (t .sum) rest → Walk to n (standAt (s .phase)) (s .sum) (map piece pieces ++ (groupEnd ∷ rest))
 
-module _ (s : Reader) (g : Image) (t : Reader) (m room : ℕ) (e : g .entries ≡ suc m) (b : Bytes (g .bytes)) (r : Ready s (length (g .bytes)) (g .number) (g .entries) room) where
-  group-of : (c : Cursor) → t ≡ closing s c → Pictured (s .size) (entryOffset (s .size) (suc m)) (g .bytes) (entriesBelow (g .bytes) (s .size - informationLength) (suc m)) (opening s) c → GroupRead s g t
+module _ (s : Reader) (g : Image) (t : Reader) (left m room : ℕ) (w : b4Kept (t .warned) (b4After left) ≡ true) (e : g .entries ≡ suc m) (b : Bytes (g .bytes)) (r : Ready s (length (g .bytes)) (g .number) (g .entries) room) where
+  group-of : (c : Cursor) → t ≡ closing s c → Pictured (s .size) (entryOffset (s .size) (suc m)) left (g .bytes) (entriesBelow (g .bytes) (s .size - informationLength) (suc m)) (opening s) c → GroupRead s g t left
   group-of c k q =
+      let shown = pictures (s .size) (q .plain) g (q .pieces) (suc m) e (r .long) (omega (arith, r .fits)) b (rw zero-add at (q .same)) (rw zero-add at (q .fits)) (q .shows) in
       record {
         pieces = q .pieces;
         plain = q .plain;
-        pictured = pictures (s .size) (q .plain) g (q .pieces) (suc m) e (r .long) (omega (arith, r .fits)) b (rw zero-add at (q .same)) (rw zero-add at (q .fits)) (q .shows);
+        warns = q .warns;
+        past = ap (λ (n : ℕ). q .plain - n) (shown .counted) ∙ q .past;
+        pictured = shown;
         numbered = r .next;
         bounded = omega (arith, r .next, r .numbered);
         sizes = ap (λ (x : Reader). x .size) (sym k);
@@ -89,35 +94,39 @@ module _ (s : Reader) (g : Image) (t : Reader) (m room : ℕ) (e : g .entries �
         walks = λ to n rest w. q .walks to n rest (subst (λ (x : Reader). Walk to n (standAt (x .phase)) (x .sum) rest) k w);
       }
 
-  group-from : Passed s t (g .bytes) (g .number) (g .entries) room → GroupRead s g t
+  group-from : Passed s t (g .bytes) (g .number) (g .entries) room → GroupRead s g t left
   unfolding groupScan entriesBelow
   group-from k =
       group-of (k .end) (k .left)
-      (unscan (s .size) (entryOffset (s .size) (suc m)) (g .bytes) (entryAt (g .bytes) (s .size - 32 - 4)) (entriesBelow (g .bytes) (s .size - 32 - 4) m) 1 (opening s) (k .end)
-      (omega (arith, r .long)) (omega arith) (small-entries (g .bytes) (s .size - 32) (suc m) b) (rw e at (k .reached)))
+      (unscan (s .size) (entryOffset (s .size) (suc m)) left (g .bytes) (entryAt (g .bytes) (s .size - 32 - 4)) (entriesBelow (g .bytes) (s .size - 32 - 4) m) 1 (opening s) (k .end)
+      (omega (arith, r .long)) (omega arith) (small-entries (g .bytes) (s .size - 32) (suc m) b) (subst (λ (x : Reader). b4Kept (x .warned) (b4After left) ≡ true) (k .left) w) (rw e at (k .reached)))
 
-group-read : (s : Reader) (g : Image) (t : Reader) (room : ℕ) → Bytes (g .bytes) → readCall s (g .bytes) (g .number) (g .entries) room ≡ answer.Accepted t → GroupRead s g t
-group-read s g t room b h = by (g .entries) refl (accepted s t (g .bytes) (g .number) (g .entries) room h)
+group-read : (s : Reader) (g : Image) (t : Reader) (left room : ℕ) → b4Kept (t .warned) (b4After left) ≡ true → Bytes (g .bytes) → readCall s (g .bytes) (g .number) (g .entries) room ≡ answer.Accepted t → GroupRead s g t left
+group-read s g t left room w b h = by (g .entries) refl (accepted s t (g .bytes) (g .number) (g .entries) room h)
   where
-    by : (n : ℕ) → g .entries ≡ n → Passed s t (g .bytes) (g .number) (g .entries) room → GroupRead s g t
+    by : (n : ℕ) → g .entries ≡ n → Passed s t (g .bytes) (g .number) (g .entries) room → GroupRead s g t left
     by zero e p = absurd (omega (arith, p .ready .some))
-    by (suc m) e p = group-from s g t m room e b (p .ready) p
+    by (suc m) e p = group-from s g t left m room w e b (p .ready) p
 
 -- A run that is read.
 pub record RunRead (s : Reader) (run : List Image) (t : Reader) : Type 0 where
   pub groups : List (List Piece)
-  pub images : Run (s .size) (s .next) groups run
+  pub plain : ℕ
+  pub warns : b4Kept (s .warned) (b4After plain) ≡ true
+  pub images : Run (s .size) plain (s .next) groups run
   pub walks : Walk (standAt (t .phase)) (t .sum) (standAt (s .phase)) (s .sum) (grouped groups)
 
 pub run-read : {s t : Reader} {run : List Image} {rows : List (List ℕ)} → Each OfBytes run → Accepts s run rows t → RunRead s run t
 unfolding grouped
-run-read b accepts-none = record { groups = []; images = run-none; walks = stop }
+run-read {s} b accepts-none = record { groups = []; plain = 0; warns = none-plain (s .warned); images = run-none; walks = stop }
 run-read (each-more b bs) (accepts-more {s} {t} {u} {g} {gs} old h a) =
-    let r = group-read s g t (length old) b h in
     let rest = run-read bs a in
-    let later : Run (s .size) (suc (s .next)) (rest .groups) gs = rw (r .sizes, r .nexts) (rest .images) in
+    let r = group-read s g t (rest .plain) (length old) (rest .warns) b h in
+    let later : Run (s .size) (r .plain - g .entries) (suc (s .next)) (rest .groups) gs = rw (r .past, r .sizes, r .nexts) (rest .images) in
     record {
       groups = r .pieces ∷ rest .groups;
+      plain = r .plain;
+      warns = r .warns;
       images = run-more (r .bounded) (r .numbered) (r .pictured) later;
       walks = r .walks (standAt (u .phase)) (u .sum) (grouped (rest .groups)) (rest .walks);
     }
@@ -128,9 +137,9 @@ between-groups phase.Inside = b-inside
 between-groups phase.Owed = b-owed
 
 -- A run of groups whose pieces walk lays out what its pieces finish and leave open.
-pub lays-run : {size first n : ℕ} {groups : List (List Piece)} {run : List Image} → sizeKept size ≡ true → numberKept first ≡ true → (f : Phase) → Run size first groups run →
+pub lays-run : {size plain first n : ℕ} {groups : List (List Piece)} {run : List Image} → sizeKept size ≡ true → numberKept first ≡ true → (f : Phase) → Run size plain first groups run →
     Walk (standAt f) n Free 0 (grouped groups) → Lays size first (itemsAfter [] (flat groups)) (begunAfter [] (flat groups)) run
-lays-run {size} {groups} h k f r w =
+lays-run {size} {plain} {groups} h k f r w =
     let found : Found size (grouped groups) = walk-found size (between-groups f) w in
     let e : flat groups ≡ piecesIn (tokens (found .laid) (found .tail)) = sym (in-grouped groups) ∙ ap piecesIn (sym (found .shows)) in
     record {
@@ -139,6 +148,7 @@ lays-run {size} {groups} h k f r w =
       laid = found .laid;
       tail = found .tail;
       groups = groups;
+      plain = plain;
       sound = found .sound;
       soundTail = found .soundTail;
       finishes = rw e (sym (items-of-tokens (found .laid) (found .tail)));

@@ -232,6 +232,7 @@ totals-kept {closed} x =
     let c = at-close x in
     record {
       groups = c .groups;
+      plain = c .plain;
       images = c .images;
       total = λ before after left right q e. last-total closed (c .phase) (c .groups) before after left right q (c .hand) (c .walks) (c .breaks) e;
       allTaken = all-taken closed (c .phase) (c .groups) (c .hand) (c .walks);

@@ -32,7 +32,7 @@ use Rattle.layout.specs.Items.Token.{piece, groupEnd}
 use Rattle.layout.specs.Layout.{kindOf, countOf, dataOf, userData, b4After, plainLeft, entriesOf}
 use Rattle.layout.proofs.Grammar.{Fits, Walk}
 use Rattle.layout.proofs.Grammar.Walk.{step, leap}
-use Rattle.layout.proofs.Decode.{data-after}
+use Rattle.layout.proofs.Decode.{plain-past, data-after}
 
 -- An entry that was passed: the kind and the b4 that its flag means, and the rules that it keeps.
 pub record Meant (size limit : ℕ) (last : Bool) (c : Cursor) (e : Entry) (d : Cursor) : Type 0 where
@@ -94,16 +94,17 @@ plain-before true (suc n) h = absurd (false≢true h)
 plain-before false left h = record { plain = suc left; warns = refl; leaves = refl }
 
 -- b4 may be clear in no entry more.
-none-plain : (warned : Bool) → b4Kept warned (b4After 0) ≡ true
+pub none-plain : (warned : Bool) → b4Kept warned (b4After 0) ≡ true
 unfolding b4After
 none-plain true = refl
 none-plain false = refl
 
 -- What a scan that reaches d from c went over: the entries are those of pieces that the grammar takes.
-pub record Pictured (size limit : ℕ) (g : List ℕ) (es : List Entry) (c d : Cursor) : Type 0 where
+pub record Pictured (size limit left : ℕ) (g : List ℕ) (es : List Entry) (c d : Cursor) : Type 0 where
   pub pieces : List Piece
   pub plain : ℕ
   pub warns : b4Kept (c .warned) (b4After plain) ≡ true
+  pub past : plain - suc (length pieces) ≡ left
   pub same : entriesOf plain (size - (c .reached + length (userData pieces))) pieces ≡ es
   pub walks : (to : Stand) (n : ℕ) (rest : List Token) → Walk to n (standAt (phaseAfter (d .stand))) (d .sum) rest → Walk to n (c .stand) (c .sum) (map piece pieces ++ (groupEnd ∷ rest))
   pub fits : c .reached + length (userData pieces) ≤ limit
@@ -132,32 +133,33 @@ module _ (size limit : ℕ) (g : List ℕ) (e : Entry) (c d : Cursor) (warned : 
       leap ((both (mayFollow (c .stand) Skip) (isSkip Skip) (kept .follow)) .0)
       (subst (λ (x : Cursor). Walk to n (standAt (phaseAfter (x .stand))) (x .sum) rest) (sym leads) w)
 
-  skip-pictured : Plain warned 0 → Pictured size limit g (e ∷ []) c d
+  skip-pictured : (left : ℕ) → Plain warned left → Pictured size limit left g (e ∷ []) c d
   unfolding entriesOf userData
-  skip-pictured pl =
+  skip-pictured left pl =
       record {
         pieces = [];
         plain = pl .plain;
         warns = rw (pl .warns) (kept .b4);
+        past = omega (arith, plain-past (pl .plain) 0, pl .leaves);
         same = rw (pl .warns) (ap {B = List Entry} (λ x. x ∷ []) (entry-same e (flagOf Skip warned) (size - (c .reached + 0)) flags (omega (arith, skip-counts))));
         walks = skip-walks;
         fits = omega arith;
         shows = refl;
       }
 
-at-skip : (size limit : ℕ) (g : List ℕ) (e : Entry) (c d : Cursor) → c .reached ≤ limit → Meant size limit true c e d → Pictured size limit g (e ∷ []) c d
-at-skip size limit g e c d l m =
+at-skip : (size limit left : ℕ) (g : List ℕ) (e : Entry) (c d : Cursor) → c .reached ≤ limit → b4Kept (d .warned) (b4After left) ≡ true → Meant size limit true c e d → Pictured size limit left g (e ∷ []) c d
+at-skip size limit left g e c d l w m =
     let k : m .kind ≡ Skip = is-skip (m .kind) ((both (mayFollow (c .stand) (m .kind)) (isSkip (m .kind)) (m .kept .follow)) .1) in
-    skip-pictured size limit g e c d (m .warned) l (rw k at (m .flags)) (rw k at (m .kept)) (rw k at (m .leads)) (plain-before (m .warned) 0 (none-plain (m .warned)))
+    skip-pictured size limit g e c d (m .warned) l (rw k at (m .flags)) (rw k at (m .kept)) (rw k at (m .leads)) left (plain-before (m .warned) left (rw (ap (λ (x : Cursor). x .warned) (m .leads)) w))
 
 two-parts : (g x y : List ℕ) (at next : ℕ) → next ≡ at + length x → x ≡ take (length x) (drop at g) → y ≡ take (length y) (drop next g) → x ++ y ≡ take (length (x ++ y)) (drop at g)
 two-parts g x y at next e p q =
     ap₂ (λ (s t : List ℕ). s ++ t) p (q ∙ ap (λ (k : ℕ). take (length y) (drop k g)) e) ∙ sym (rw (length-append x y, take-add (length x) (length y) (drop at g), drop-drop))
 
 -- At a piece.
-module _ (size limit : ℕ) (g : List ℕ) (e : Entry) (es : List Entry) (c d f : Cursor) (p : Piece) (warned : Bool) (flags : e .flag ≡ flagOf (kindOf p) warned) (counts : e .count ≡ countOf p)
+module _ (size limit left : ℕ) (g : List ℕ) (e : Entry) (es : List Entry) (c d f : Cursor) (p : Piece) (warned : Bool) (flags : e .flag ≡ flagOf (kindOf p) warned) (counts : e .count ≡ countOf p)
     (small : e .count < 16777216) (kept : Kept size limit false c (kindOf p) warned (countOf p)) (leads : advance c (kindOf p) warned (countOf p) ≡ d)
-    (shown : dataOf p ≡ take (length (dataOf p)) (drop (c .reached) g)) (q : Pictured size limit g es d f) where
+    (shown : dataOf p ≡ take (length (dataOf p)) (drop (c .reached) g)) (q : Pictured size limit left g es d f) where
   piece-moves : d .reached ≡ c .reached + length (dataOf p)
   piece-moves = sym (ap (λ (x : Cursor). x .reached) leads) ∙ data-after p (c .reached)
 
@@ -174,25 +176,26 @@ module _ (size limit : ℕ) (g : List ℕ) (e : Entry) (es : List Entry) (c d f 
   piece-over : size - (c .reached + length (dataOf p ++ userData (q .pieces))) ≡ size - (d .reached + length (userData (q .pieces)))
   piece-over = omega (arith, piece-moves, piece-adds)
 
-  piece-pictured : Plain warned (q .plain) → Pictured size limit g (e ∷ es) c f
+  piece-pictured : Plain warned (q .plain) → Pictured size limit left g (e ∷ es) c f
   unfolding entriesOf userData
   piece-pictured pl =
       record {
         pieces = p ∷ q .pieces;
         plain = pl .plain;
         warns = rw (pl .warns) (kept .b4);
+        past = omega (arith, plain-past (pl .plain) (suc (length (q .pieces))), pl .leaves, q .past);
         same = rw (pl .warns, pl .leaves, piece-over, q .same) (ap {B = List Entry} (λ x. x ∷ es) (entry-same e (flagOf (kindOf p) warned) (countOf p) flags counts));
         walks = piece-walks;
         fits = omega (arith, piece-moves, piece-adds, q .fits);
         shows = two-parts g (dataOf p) (userData (q .pieces)) (c .reached) (d .reached) piece-moves shown (q .shows);
       }
 
-at-piece : (size limit : ℕ) (g : List ℕ) (e : Entry) (es : List Entry) (c d f : Cursor) → e .count < 16777216 → limit ≤ length g → Meant size limit false c e d →
-    Pictured size limit g es d f → Pictured size limit g (e ∷ es) c f
-at-piece size limit g e es c d f small l m q =
+at-piece : (size limit left : ℕ) (g : List ℕ) (e : Entry) (es : List Entry) (c d f : Cursor) → e .count < 16777216 → limit ≤ length g → Meant size limit false c e d →
+    Pictured size limit left g es d f → Pictured size limit left g (e ∷ es) c f
+at-piece size limit left g e es c d f small l m q =
     let no : isSkip (m .kind) ≡ false = not-true (isSkip (m .kind)) ((both (mayFollow (c .stand) (m .kind)) (not (isSkip (m .kind))) (m .kept .follow)) .1) in
     let mk = make g (c .reached) (e .count) limit (m .kind) l no (m .kept .room) in
-    piece-pictured size limit g e es c d f (mk .made) (m .warned) (rw (mk .kinds) (m .flags)) (sym (mk .counts)) small
+    piece-pictured size limit left g e es c d f (mk .made) (m .warned) (rw (mk .kinds) (m .flags)) (sym (mk .counts)) small
     (rw (mk .kinds, mk .counts) (m .kept)) (rw (mk .kinds, mk .counts) (m .leads)) (mk .shows) q
     (plain-before (m .warned) (q .plain) (rw (ap (λ (x : Cursor). x .warned) (m .leads)) (q .warns)))
 
@@ -203,15 +206,15 @@ moves-within size limit last c e d m =
 reached-same : {c d : Cursor} → Reached c ≡ Reached d → c ≡ d
 reached-same h = cc
 
-pub unscan : (size limit : ℕ) (g : List ℕ) (e : Entry) (es : List Entry) (place : ℕ) (c d : Cursor) → limit ≤ length g → c .reached ≤ limit → Small (e ∷ es) →
-    scan size limit (e ∷ es) place c ≡ Reached d → Pictured size limit g (e ∷ es) c d
+pub unscan : (size limit left : ℕ) (g : List ℕ) (e : Entry) (es : List Entry) (place : ℕ) (c d : Cursor) → limit ≤ length g → c .reached ≤ limit → Small (e ∷ es) → b4Kept (d .warned) (b4After left) ≡ true →
+    scan size limit (e ∷ es) place c ≡ Reached d → Pictured size limit left g (e ∷ es) c d
 unfolding scan
-unscan size limit g e [] place c d l a s h =
+unscan size limit left g e [] place c d l a s w h =
     let next = after c (meaningOf (e .flag)) (e .count) in
     let o = went-on (entryFault size limit true c (meaningOf (e .flag)) (e .count)) place c d (Reached next) h in
-    at-skip size limit g e c d a (subst (Meant size limit true c e) (reached-same (o .1)) (meant size limit true c e (o .0)))
-unscan size limit g e (x ∷ es) place c d l a s h =
+    at-skip size limit left g e c d a w (subst (Meant size limit true c e) (reached-same (o .1)) (meant size limit true c e (o .0)))
+unscan size limit left g e (x ∷ es) place c d l a s w h =
     let next = after c (meaningOf (e .flag)) (e .count) in
     let o = went-on (entryFault size limit false c (meaningOf (e .flag)) (e .count)) place c d (scan size limit (x ∷ es) (suc place) next) h in
     let m = meant size limit false c e (o .0) in
-    at-piece size limit g e (x ∷ es) c next d (s .0) l m (unscan size limit g x es (suc place) next d l (moves-within size limit false c e next m) (s .1) (o .1))
+    at-piece size limit left g e (x ∷ es) c next d (s .0) l m (unscan size limit left g x es (suc place) next d l (moves-within size limit false c e next m) (s .1) w (o .1))

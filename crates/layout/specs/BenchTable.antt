@@ -1,9 +1,9 @@
--- Document 01, "Bench table": the cases marked P as one list, with two on b4. Each writing is read back by the read call; each
+-- Document 01, "Bench table": the cases marked P as one list, with three on b4. Each writing is read back by the read call; each
 -- reading is of a run from fresh. What is expected is written out whole: every answer, every byte of every closed group, every row.
 -- Assumes nothing.
 use Prim.Native.Nat.{ℕ, zero, suc, _+_, _*_}
 use mathlib.Core.List.{List, [], _∷_, _++_}
-use mathlib.Core.Bool.{true, false}
+use mathlib.Core.Bool.{Bool, true, false}
 use lib.ListN.{length, replicate}
 use Rattle.laying.specs.Start.{freshState, writerStartCall}
 use Rattle.answer.specs.Answer.{numbersTold}
@@ -18,7 +18,7 @@ use Rattle.laying.specs.declared.WriterStart.{WriterStart}
 use Rattle.laying.specs.declared.WriterStart.the-variants as writerStart
 use Rattle.writer.specs.declared.WriteAnswer.{WriteAnswer}
 use Rattle.writer.specs.declared.WriteAnswer.the-variants.{Finished, Closed, Refused}
-use Rattle.laying.specs.Laying.{Desk, desk}
+use Rattle.laying.specs.Laying.{Desk, desk, warnState}
 use Rattle.writer.specs.Calls as write
 use Rattle.writer.specs.Calls.{Call, call}
 use Rattle.writer.specs.Calls.Call.{aRecord, aSeparator, anEnd}
@@ -151,16 +151,19 @@ filling rows = record { told = ok; rows = rows ++ (rowOther ∷ []) }
 abbrev pub refusing : (refusal place n : ℕ) → Read
 refusing refusal place n = record { told = refusedAt refusal place; rows = lentRows n }
 
--- A writer that stands free before the group of this number, nothing laid.
+-- A writer that stands free before the group of this number, nothing laid, and the same with b4 set.
 abbrev pub freeDesk : ℕ → ℕ → Desk
 freeDesk lent number = desk (freshState size number) (replicate size lent)
 
--- A reader before the group of this number, and one that stands free.
-abbrev pub readerAt : (number : ℕ) → Phase → (sum : ℕ) → Reader
-readerAt number p sum = record { size = size; next = number; phase = p; sum = sum }
+abbrev pub warnedDesk : ℕ → ℕ → Desk
+warnedDesk lent number = desk (warnState true (freshState size number)) (replicate size lent)
+
+-- A reader before the group of this number, and one that stands free with b4 clear.
+abbrev pub readerAt : (number : ℕ) → Phase → (b4 : Bool) (sum : ℕ) → Reader
+readerAt number p b4 sum = record { size = size; next = number; phase = p; warned = b4; sum = sum }
 
 abbrev pub freeReader : ℕ → Reader
-freeReader number = readerAt number phase.Free 0
+freeReader number = readerAt number phase.Free false 0
 
 -- A record's bytes from its k-th on, Separator 1, an end; none sets b4.
 abbrev pub offer : ℕ → ℕ → Call
@@ -312,7 +315,7 @@ p10 =
 
 -- A reader inside a record of which the start's 24 bytes stand in group 1.
 abbrev pub insideReader : Reader
-insideReader = readerAt 2 phase.Inside 24
+insideReader = readerAt 2 phase.Inside false 24
 
 -- "P11: a lone skip inside a record gives 10 at 1."
 abbrev pub p11 : Case
@@ -334,37 +337,49 @@ p12 =
       expected = readings (filling startRows ∷ refusing 22 2 3 ∷ []) insideReader;
     }
 
--- Beside the table: all entries of a call that sets b4 carry it, those of later calls to the close too, and the next group
--- begins anew. A refused call sets nothing.
-abbrev pub b4ToTheClose : Case
-b4ToTheClose =
+-- Beside the table. Change request 2026-03: all entries of a call that sets b4 carry it, and those of all later calls, in this and in
+-- all following groups. It need not be said again.
+abbrev pub b4Onward : Case
+b4Onward =
     record {
-      given = writing other (aRecord (from 1 25) true ∷ offer 25 1 ∷ aSeparator 2 true ∷ separator ∷ aSeparator 1 true ∷ end ∷ []);
+      given = writing other (aRecord (from 1 25) true ∷ offer 25 1 ∷ separator ∷ aSeparator 1 true ∷ end ∷ []);
       expected =
-          wrote (closeOf 1 2 24 ∷ ok ∷ refusedAt 18 0 ∷ ok ∷ ok ∷ closeOf 2 5 0 ∷ [])
+          wrote (closeOf 1 2 24 ∷ ok ∷ ok ∷ ok ∷ closeOf 2 5 0 ∷ [])
           (image 1 2 (from 1 24 ++ (0x88 ∷ 0 ∷ 0 ∷ 40 ∷ 0x4A ∷ 0 ∷ 0 ∷ 24 ∷ []) ++ information)
-          ∷ image 2 5 (from 25 1 ++ zeros 11 ++ (0x88 ∷ 0 ∷ 0 ∷ 63 ∷ 0x0F ∷ 0 ∷ 0 ∷ 1 ∷ 0x07 ∷ 0 ∷ 0 ∷ 0 ∷ 0x01 ∷ 0 ∷ 0 ∷ 25 ∷ 0x60 ∷ 0 ∷ 0 ∷ 1 ∷ []) ++ information)
+          ∷ image 2 5 (from 25 1 ++ zeros 11 ++ (0x88 ∷ 0 ∷ 0 ∷ 63 ∷ 0x0F ∷ 0 ∷ 0 ∷ 1 ∷ 0x0F ∷ 0 ∷ 0 ∷ 0 ∷ 0x09 ∷ 0 ∷ 0 ∷ 25 ∷ 0x68 ∷ 0 ∷ 0 ∷ 1 ∷ []) ++ information)
           ∷ [])
-          (freeDesk other 3)
+          (warnedDesk other 3)
           (filling startRows ∷ filling (5 ∷ 0 ∷ 1 ∷ 1 ∷ 1 ∷ 25 ∷ 2 ∷ 1 ∷ 0 ∷ 2 ∷ 1 ∷ 1 ∷ 7 ∷ 1 ∷ 63 ∷ []) ∷ [])
-          (freeReader 3);
+          (readerAt 3 phase.Free true 0);
     }
 
--- An owed total carries b4 of the call that lays it; an end that closes nothing leaves b4 clear.
+-- A call that is refused sets nothing, nor does an end that closes nothing. An owed total carries b4 of the call that lays it.
 abbrev pub b4OfAnOwedTotal : Case
 b4OfAnOwedTotal =
     record {
-      given = writing other (offer 1 45 ∷ anEnd true ∷ separator ∷ offer 25 21 ∷ anEnd true ∷ anEnd true ∷ []);
+      given = writing other (anEnd true ∷ aSeparator 2 true ∷ offer 1 45 ∷ anEnd true ∷ separator ∷ offer 25 21 ∷ anEnd true ∷ []);
       expected =
-          wrote (closeOf 1 2 24 ∷ refusedAt 17 0 ∷ refusedAt 17 0 ∷ closeOf 2 2 21 ∷ closeOf 3 2 0 ∷ ok ∷ [])
+          wrote (ok ∷ refusedAt 18 0 ∷ closeOf 1 2 24 ∷ refusedAt 17 0 ∷ refusedAt 17 0 ∷ closeOf 2 2 21 ∷ closeOf 3 2 0 ∷ [])
           (image 1 2 startGroup
           ∷ image 2 2 (from 25 21 ++ zeros 3 ++ (0x80 ∷ 0 ∷ 0 ∷ 43 ∷ 0x60 ∷ 0 ∷ 0 ∷ 21 ∷ []) ++ information)
           ∷ image 3 2 (zeros 24 ++ (0x88 ∷ 0 ∷ 0 ∷ 64 ∷ 0x09 ∷ 0 ∷ 0 ∷ 45 ∷ []) ++ information)
           ∷ [])
-          (freeDesk other 4)
+          (warnedDesk other 4)
           (filling startRows ∷ filling (5 ∷ 0 ∷ 21 ∷ 7 ∷ 21 ∷ 43 ∷ []) ∷ filling (1 ∷ 0 ∷ 45 ∷ 7 ∷ 0 ∷ 64 ∷ []) ∷ [])
-          (freeReader 4);
+          (readerAt 4 phase.Free true 0);
+    }
+
+-- "9 now also meets the first entry of a later group": b4 begins in the start's group and goes out in the next one.
+abbrev pub b4WentOut : Case
+b4WentOut =
+    record {
+      given =
+          reading
+          (image 1 2 (from 1 24 ++ (0x88 ∷ 0 ∷ 0 ∷ 40 ∷ 0x42 ∷ 0 ∷ 0 ∷ 24 ∷ []) ++ information)
+          ∷ image 2 3 (from 25 1 ++ zeros 19 ++ (0x88 ∷ 0 ∷ 0 ∷ 63 ∷ 0x09 ∷ 0 ∷ 0 ∷ 25 ∷ 0x60 ∷ 0 ∷ 0 ∷ 1 ∷ []) ++ information)
+          ∷ []);
+      expected = readings (filling startRows ∷ refusing 9 1 3 ∷ []) (readerAt 2 phase.Inside true 24);
     }
 
 unfoldable pub benchTable : List Case
-benchTable = p1 ∷ p2 ∷ p3 ∷ p4 ∷ p5 ∷ p6 ∷ p7 ∷ p8 ∷ p9 ∷ p10 ∷ p11 ∷ p12 ∷ b4ToTheClose ∷ b4OfAnOwedTotal ∷ []
+benchTable = p1 ∷ p2 ∷ p3 ∷ p4 ∷ p5 ∷ p6 ∷ p7 ∷ p8 ∷ p9 ∷ p10 ∷ p11 ∷ p12 ∷ b4Onward ∷ b4OfAnOwedTotal ∷ b4WentOut ∷ []

@@ -66,7 +66,7 @@ unfoldable pub entriesOf : ℕ → ℕ → List Piece → List Entry
 entriesOf plain over [] = entry (flagOf Skip (b4After plain)) over ∷ []
 entriesOf plain over (p ∷ ps) = entry (flagOf (kindOf p) (b4After plain)) (countOf p) ∷ entriesOf (plainLeft plain) over ps
 
--- A group's bytes: data, gap, table, the 32 bytes that are the firmware's. Free: the gap, the 32 bytes and where b4 begins.
+-- A group's bytes: data, gap, table, the 32 bytes that are the firmware's. Free: the gap and the 32 bytes.
 pub record Pictures (size plain : ℕ) (ps : List Piece) (g : Image) : Type 0 where
   pub gap : List ℕ
   pub information : List ℕ
@@ -75,11 +75,13 @@ pub record Pictures (size plain : ℕ) (ps : List Piece) (g : Image) : Type 0 wh
   pub filled : length (g .bytes) ≡ size
   pub stands : g .bytes ≡ userData ps ++ (gap ++ (tableBytes (entriesOf plain (size - length (userData ps)) ps) ++ information))
 
--- A run's groups: "Numbers then rise by one", and none is above 65,535. b4 begins anew in each.
-pub data Run (size : ℕ) : ℕ → List (List Piece) → List Image → Type 0 where
-  run-none : {number : ℕ} → Run size number [] []
-  run-more : {number plain : ℕ} {ps : List Piece} {pss : List (List Piece)} {g : Image} {gs : List Image} →
-      number ≤ lastNumber → g .number ≡ number → Pictures size plain ps g → Run size (suc number) pss gs → Run size number (ps ∷ pss) (g ∷ gs)
+-- A run's groups: "Numbers then rise by one", and none is above 65,535. b4 is clear in the first `plain` entries of the whole run
+-- and set in the others: "one entry of the whole run, or none, where b4 begins".
+pub data Run (size : ℕ) : ℕ → ℕ → List (List Piece) → List Image → Type 0 where
+  run-none : {plain number : ℕ} → Run size plain number [] []
+  run-more : {plain number : ℕ} {ps : List Piece} {pss : List (List Piece)} {g : Image} {gs : List Image} →
+      number ≤ lastNumber → g .number ≡ number → Pictures size plain ps g → Run size (plain - g .entries) (suc number) pss gs →
+      Run size plain number (ps ∷ pss) (g ∷ gs)
 
 -- These items, with these bytes of a record broken off, are a lawful layout of these groups.
 pub record Lays (size first : ℕ) (finished : List Item) (begun : List ℕ) (run : List Image) : Type 0 where
@@ -88,9 +90,10 @@ pub record Lays (size first : ℕ) (finished : List Item) (begun : List ℕ) (ru
   pub laid : List Laid
   pub tail : Tail
   pub groups : List (List Piece)
+  pub plain : ℕ
   pub sound : Each (SoundLaid size) laid
   pub soundTail : SoundTail size tail
   pub finishes : items laid ≡ finished
   pub breaks : soFar tail ≡ begun
   pub groupsOf : tokens laid tail ≡ grouped groups
-  pub images : Run size first groups run
+  pub images : Run size plain first groups run

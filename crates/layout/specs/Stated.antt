@@ -3,10 +3,14 @@
 -- Assumes nothing.
 use Prim.Native.Nat.{ℕ, _+_}
 use mathlib.Core.List.{List, [], _∷_, _++_}
+use mathlib.Core.Bool.{Bool, false}
 use mathlib.Core.Path.{_≡_}
 use mathlib.Core.Logic.{_↔_}
 use lib.ListN.{length}
 use Rattle.group.specs.declared.Phase.the-variants as phase
+use Rattle.group.specs.Sizes.{entryOffset}
+use Rattle.group.specs.Flags.{b4Of}
+use Rattle.group.specs.Entries.{entryAt}
 use Rattle.reader.specs.declared.Reader.{Reader}
 use Rattle.reader.specs.declared.ReadAnswer.the-variants as answer
 use Rattle.reader.specs.Answer.{readCall}
@@ -15,14 +19,21 @@ use Rattle.layout.specs.Layout.{Image, Lays}
 use Rattle.layout.specs.Accepting.{Accepts, lentTo}
 use Rattle.layout.specs.Reading.{itemsRead, begunRead, phaseRead}
 
--- "Its state is L, the next number, free / inside / owed, and the sum of parts so far": after a run of groups of this size from
--- this first number, where its rows leave these bytes of a record. The pieces that the rows give tell inside from owed.
+-- b4 as a run of groups of this size leaves it: that of the last group's last entry, its skip; as it was where there is no group.
+unfoldable pub b4Left : (size : ℕ) (before : Bool) → List Image → Bool
+b4Left size before [] = before
+b4Left size before (g ∷ gs) = b4Left size (b4Of (entryAt (g .bytes) (entryOffset size (g .entries)) .flag)) gs
+
+-- "Its state is L, the next number, free / inside / owed, and the sum of parts so far", and b4, which "a fresh start" clears: after a
+-- run of groups of this size from this first number, where its rows leave these bytes of a record. The pieces that the rows give
+-- tell inside from owed.
 pub record EndsWith (size first : ℕ) (run : List Image) (rows : List (List ℕ)) (begun : List ℕ) (final : Reader) : Type 0 where
   pub sized : final .size ≡ size
   pub next : final .next ≡ first + length run
   pub stands : final .phase ≡ phaseRead run rows
   pub free : (final .phase ≡ phase.Free) ↔ (begun ≡ [])
   pub sum : final .sum ≡ length begun
+  pub b4 : final .warned ≡ b4Left size false run
 
 -- A run that is accepted by reads which are lent just these row buffers: the rows that they are left with, and the state.
 pub record AcceptedWith (s : Reader) (run : List Image) (lent : List (List ℕ)) (begun : List ℕ) : Type 0 where

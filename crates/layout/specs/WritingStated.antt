@@ -61,7 +61,8 @@ pub record EndInLast (groups : List (List Piece)) : Type 0 where
 -- run's end.
 pub record TotalsKept (size first : ℕ) (run : List Image) (closed : Account) : Type 0 where
   pub groups : List (List Piece)
-  pub images : Run size first groups run
+  pub plain : ℕ
+  pub images : Run size plain first groups run
   pub total : (before after : List (List Piece)) (left right : List Piece) (q : List ℕ) → groups ≡ before ++ ((left ++ (aLast q ∷ right)) ∷ after) →
       TotalStands closed (begunAfter (begunIn [] before) left ++ q) right after
   pub allTaken : 1 ≤ length (closed .begun) → closed .asked ≡ [] → EndInLast groups

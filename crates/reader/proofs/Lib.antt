@@ -6,3 +6,4 @@ pub mod Sound
 pub mod Settled
 pub mod Refused
 pub mod Blind
+pub mod Warned

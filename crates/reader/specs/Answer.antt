@@ -26,9 +26,9 @@ use Rattle.entry.specs.Rules.{standAt, phaseAfter}
 use Rattle.entry.specs.Scan.{scan}
 use Rattle.rows.specs.Rows.{rowsFrom}
 
--- "A reader starts with L and the first number."
+-- "A reader starts with L and the first number." b4 is clear: "a fresh start does" clear it.
 abbrev pub fresh : ℕ → ℕ → Reader
-fresh size first = record { size = size; next = first; phase = phase.Free; sum = 0 }
+fresh size first = record { size = size; next = first; phase = phase.Free; warned = false; sum = 0 }
 
 -- "Order: start 2, 3." "a refused start gives no state"
 unfoldable pub readerStartCall : ℕ → ℕ → ReaderStart
@@ -60,13 +60,13 @@ readRefusal s length number n room =
     (cond (not (entriesKept (s .size) n)) 6
     (cond (not (rowsFit n room)) 7 0))))
 
--- Where a group's scan begins. "Each group begins anew" with b4.
+-- Where a group's scan begins. b4 is as the group before left it: "Reader and writer states carry it".
 abbrev pub opening : Reader → Cursor
-opening s = record { stand = standAt (s .phase); warned = false; sum = s .sum; reached = 0 }
+opening s = record { stand = standAt (s .phase); warned = s .warned; sum = s .sum; reached = 0 }
 
 -- The state after a group whose scan reached its end.
 abbrev pub closing : Reader → Cursor → Reader
-closing s c = record { size = s .size; next = s .next + 1; phase = phaseAfter (c .stand); sum = c .sum }
+closing s c = record { size = s .size; next = s .next + 1; phase = phaseAfter (c .stand); warned = c .warned; sum = c .sum }
 
 -- The scan of a whole group of n entries.
 unfoldable pub groupScan : Reader → List ℕ → ℕ → ScanEnd

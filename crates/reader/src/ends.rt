@@ -39,7 +39,7 @@ pub(crate) fn opening(reader: Reader) -> Cursor
     let phase = reader.phase;
     Cursor {
         stand: stand_at(phase),
-        warned: false,
+        warned: reader.warned,
         sum: reader.sum,
         reached: 0,
     }
@@ -55,6 +55,7 @@ pub(crate) fn closing(reader: Reader, cursor: Cursor) -> Reader
         size: reader.size,
         next: reader.next + 1,
         phase: phase_after(stand),
+        warned: cursor.warned,
         sum: cursor.sum,
     }
 }

@@ -12,11 +12,12 @@ use entry::ScanEnd;
 use group::Group;
 use group::Phase;
 
-// A reader's state between groups.
+// A reader's state between groups. The two fields that are one byte wide stand together.
 pub struct Reader {
     pub size: u32,
     pub next: u32,
     pub phase: Phase,
+    pub warned: bool,
     pub sum: u32,
 }
 
@@ -47,6 +48,7 @@ impl Reader {
             size,
             next: first,
             phase: Phase::Free,
+            warned: false,
             sum: 0,
         })
     }

@@ -7,7 +7,7 @@ use borrow.Author.Tests.{eq-eqb, ne-eqb, le-leb, lt-leb}
 use Rattle.group.specs.Sizes.{longestRecord, lastNumber}
 use Rattle.group.specs.State.{runSound}
 use Rattle.laying.specs.declared.Writer.{Writer}
-use Rattle.sound.specs.State.{isInside, isOwed, offerKept, endRemainsKept, roomKept, emptyKept, restKept, dataKept, clearKept, spentKept, writerSound, recordRefusal, separatorRefusal, endRefusal}
+use Rattle.sound.specs.State.{isInside, isOwed, offerKept, endRemainsKept, roomKept, emptyKept, restKept, dataKept, spentKept, writerSound, recordRefusal, separatorRefusal, endRefusal}
 
 -- Soundness: the rules that are met on the way, in the definition's order, and the first that is not.
 module _ (w : Writer) where
@@ -25,9 +25,6 @@ module _ (w : Writer) where
 
   abbrev pub DataMet : Type 0
   DataMet = RestMet × (dataKept w ≡ true)
-
-  abbrev pub ClearMet : Type 0
-  ClearMet = DataMet × (clearKept w ≡ true)
 
   pub run-lacks : runSound (w .size) (w .next) (w .phase) (w .sum) ≡ false → false ≡ writerSound w
   unfolding writerSound
@@ -49,13 +46,9 @@ module _ (w : Writer) where
   unfolding writerSound
   data-lacks m e = rw (m .0 .0 .0, m .0 .0 .1, m .0 .1, m .1, e)
 
-  pub clear-lacks : DataMet → clearKept w ≡ false → false ≡ writerSound w
+  pub spent-decides : DataMet → spentKept w ≡ writerSound w
   unfolding writerSound
-  clear-lacks m e = rw (m .0 .0 .0 .0, m .0 .0 .0 .1, m .0 .0 .1, m .0 .1, m .1, e)
-
-  pub spent-decides : ClearMet → spentKept w ≡ writerSound w
-  unfolding writerSound
-  spent-decides m = rw (m .0 .0 .0 .0 .0, m .0 .0 .0 .0 .1, m .0 .0 .0 .1, m .0 .0 .1, m .0 .1, m .1)
+  spent-decides m = rw (m .0 .0 .0 .0, m .0 .0 .0 .1, m .0 .0 .1, m .0 .1, m .1)
 
 -- Refusals: what is met on the way to them.
 module _ (w : Writer) (len : ℕ) where

@@ -49,10 +49,6 @@ restKept s = cond (isInside (s .phase)) (leb 1 (s .rest) && leb (s .sum + s .res
 unfoldable pub dataKept : Writer → Bool
 dataKept s = implies (ltb 0 (s .filled)) (ltb 0 (s .entries))
 
--- "e = 0 means b4 clear"
-unfoldable pub clearKept : Writer → Bool
-clearKept s = implies (eqb (s .entries) 0) (not (s .warned))
-
 -- "at number 65,536 d = e = 0"
 unfoldable pub spentKept : Writer → Bool
 spentKept s = implies (eqb (s .next) (lastNumber + 1)) (isEmpty s)
@@ -61,7 +57,7 @@ spentKept s = implies (eqb (s .next) (lastNumber + 1)) (isEmpty s)
 unfoldable pub writerSound : Writer → Bool
 writerSound s =
     runSound (s .size) (s .next) (s .phase) (s .sum)
-    && (roomKept s && (emptyKept s && (restKept s && (dataKept s && (clearKept s && spentKept s)))))
+    && (roomKept s && (emptyKept s && (restKept s && (dataKept s && spentKept s))))
 
 -- 4, "group buffer length not L": that it is.
 abbrev pub lengthKept : Writer → ℕ → Bool

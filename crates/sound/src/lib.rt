@@ -2,7 +2,7 @@
 // a refusal is its number, and 0 is none.
 ghost use mathlib.Core.Path.{_≡_};
 ghost use Rattle.sound.specs.State.{isFree, isInside, isOwed, isEmpty, endsEmpty};
-ghost use Rattle.sound.specs.State.{roomKept, emptyKept, restKept, dataKept, clearKept, spentKept, writerSound};
+ghost use Rattle.sound.specs.State.{roomKept, emptyKept, restKept, dataKept, spentKept, writerSound};
 ghost use Rattle.sound.specs.State.{recordRefusal, separatorRefusal, endRefusal};
 use group::Group;
 use group::Phase;
@@ -91,15 +91,6 @@ fn data_kept(w: Writer) -> bool
     true
 }
 
-fn clear_kept(w: Writer) -> bool
-    ensures { λ r. ⌜ r ≡ clearKept w ⌝ }
-{
-    if w.entries == 0 {
-        return !w.warned;
-    }
-    true
-}
-
 fn spent_kept(w: Writer) -> bool
     ensures { λ r. ⌜ r ≡ spentKept w ⌝ }
 {
@@ -126,9 +117,6 @@ fn is_sound(w: Writer) -> bool
         return false;
     }
     if !data_kept(w) {
-        return false;
-    }
-    if !clear_kept(w) {
         return false;
     }
     spent_kept(w)

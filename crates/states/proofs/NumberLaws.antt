@@ -1,4 +1,4 @@
--- A phase and b4 from their numbers and back, and which numbers of a writer's slice and call have a meaning.
+-- A phase and b4 from their numbers and back, and which numbers of a slice and a call have a meaning.
 -- Assumes nothing.
 use mathlib.Core.Path.{_≡_, refl}
 use mathlib.Core.Bool.{Bool, true, false, _&&_}
@@ -9,7 +9,7 @@ use borrow.Author.Tests.{leb-true, le-leb, lt-leb}
 use Rattle.numbers.specs.Numbers.{field}
 use Rattle.group.specs.declared.Phase.{Phase}
 use Rattle.group.specs.declared.Phase.the-variants.{Free, Inside, Owed}
-use Rattle.states.specs.States.{phaseNumber, phaseOf, phaseMeant, b4Number, b4Set, b4Meant, writerMeant}
+use Rattle.states.specs.States.{phaseNumber, phaseOf, phaseMeant, b4Number, b4Set, b4Meant, readerMeant, writerMeant}
 
 pub phase-of-number : (p : Phase) → phaseOf (phaseNumber p) ≡ p
 phase-of-number Free = refl
@@ -40,6 +40,16 @@ phase-meant Owed = (omega arith, refl)
 pub b4-meant : (b : Bool) → (b4Number b < 256 ^ 4) × (b4Meant (b4Number b) ≡ true)
 b4-meant false = (omega arith, refl)
 b4-meant true = (omega arith, refl)
+
+-- The tests of a reader's slice, one law an exit.
+module _ (slice : List ℕ) where
+  pub reader-unmeant : phaseMeant (field slice 2) ≡ false → false ≡ readerMeant slice
+  unfolding readerMeant
+  reader-unmeant h = rw h
+
+  pub reader-by-b4 : phaseMeant (field slice 2) ≡ true → b4Meant (field slice 4) ≡ readerMeant slice
+  unfolding readerMeant
+  reader-by-b4 h = rw h
 
 -- The tests of a writer's slice and of `warn`, one law an exit.
 module _ (slice : List ℕ) (warn : ℕ) where

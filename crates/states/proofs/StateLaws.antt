@@ -36,7 +36,7 @@ pub record WriterFits (s : Writer) : Type 0 where
 pub reader-of-bytes : (s : Reader) → ReaderFits s → readerOf (readerBytes s) ≡ s
 unfolding readerOf
 reader-of-bytes s h =
-    rw (field-of-bytes (readerNumbers s) 0 (omega arith) (h .size), field-of-bytes (readerNumbers s) 1 (omega arith) (h .next), field-of-bytes (readerNumbers s) 2 (omega arith) (phase-meant (s .phase) .0), field-of-bytes (readerNumbers s) 3 (omega arith) (h .sum), phase-of-number (s .phase))
+    rw (field-of-bytes (readerNumbers s) 0 (omega arith) (h .size), field-of-bytes (readerNumbers s) 1 (omega arith) (h .next), field-of-bytes (readerNumbers s) 2 (omega arith) (phase-meant (s .phase) .0), field-of-bytes (readerNumbers s) 3 (omega arith) (h .sum), field-of-bytes (readerNumbers s) 4 (omega arith) (b4-meant (s .warned) .0), phase-of-number (s .phase), b4-of-number (s .warned))
 
 pub writer-of-bytes : (s : Writer) → WriterFits s → writerOf (writerBytes s) ≡ s
 unfolding writerOf
@@ -48,7 +48,8 @@ pub meant-reader : (s : Reader) → readerMeant (readerBytes s) ≡ true
 unfolding readerMeant
 meant-reader s =
     let p = phase-meant (s .phase) in
-    rw (field-of-bytes (readerNumbers s) 2 (omega arith) (p .0), p .1)
+    let b = b4-meant (s .warned) in
+    rw (field-of-bytes (readerNumbers s) 2 (omega arith) (p .0), field-of-bytes (readerNumbers s) 4 (omega arith) (b .0), p .1, b .1)
 
 pub meant-writer : (s : Writer) → writerMeant (writerBytes s) ≡ true
 unfolding writerMeant
@@ -89,7 +90,9 @@ sound-writer-fits s e =
 pub bytes-of-reader : (slice : List ℕ) → Bytes slice → length slice ≡ readerLength → readerMeant slice ≡ true
     → readerBytes (readerOf slice) ≡ slice
 unfolding readerOf readerMeant
-bytes-of-reader slice b long e = rw (number-of-phase (field slice 2) e) (bytes-of-all slice 4 b long)
+bytes-of-reader slice b long e =
+    let h = both (phaseMeant (field slice 2)) (b4Meant (field slice 4)) e in
+    rw (number-of-phase (field slice 2) (h .0), number-of-b4 (field slice 4) (h .1)) (bytes-of-all slice 5 b long)
 
 pub bytes-of-writer : (slice : List ℕ) → Bytes slice → length slice ≡ writerLength → writerMeant slice ≡ true
     → writerBytes (writerOf slice) ≡ slice

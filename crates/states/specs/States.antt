@@ -12,12 +12,12 @@ use Rattle.reader.specs.declared.Reader.{Reader}
 use Rattle.laying.specs.declared.Writer.{Writer}
 use Rattle.states.specs.declared.Run.{Run}
 
--- A reader's state is four numbers, a writer's the same four and four more.
+-- Both states begin with the same four numbers; a reader's has one more, a writer's four.
 abbrev pub runLength : ℕ
 runLength = 16
 
 abbrev pub readerLength : ℕ
-readerLength = 16
+readerLength = 20
 
 abbrev pub writerLength : ℕ
 writerLength = 32
@@ -49,12 +49,19 @@ b4Meant n = leb n 1
 abbrev pub runOf : List ℕ → Run
 runOf slice = record { size = field slice 0; next = field slice 1; phase = phaseOf (field slice 2); sum = field slice 3 }
 
--- A reader's state: these four.
+-- A reader's state: these four, then b4.
 unfoldable pub readerOf : List ℕ → Reader
-readerOf slice = record { size = runOf slice .size; next = runOf slice .next; phase = runOf slice .phase; sum = runOf slice .sum }
+readerOf slice =
+    record {
+      size = runOf slice .size;
+      next = runOf slice .next;
+      phase = runOf slice .phase;
+      warned = b4Set (field slice 4);
+      sum = runOf slice .sum;
+    }
 
 abbrev pub readerNumbers : Reader → List ℕ
-readerNumbers s = s .size ∷ s .next ∷ phaseNumber (s .phase) ∷ s .sum ∷ []
+readerNumbers s = s .size ∷ s .next ∷ phaseNumber (s .phase) ∷ s .sum ∷ b4Number (s .warned) ∷ []
 
 abbrev pub readerBytes : Reader → List ℕ
 readerBytes s = inBytes (readerNumbers s)
@@ -82,7 +89,7 @@ writerBytes s = inBytes (writerNumbers s)
 
 -- The numbers of a state slice that could have no meaning have one.
 unfoldable pub readerMeant : List ℕ → Bool
-readerMeant slice = phaseMeant (field slice 2)
+readerMeant slice = phaseMeant (field slice 2) && b4Meant (field slice 4)
 
 unfoldable pub writerMeant : List ℕ → Bool
 writerMeant slice = phaseMeant (field slice 2) && b4Meant (field slice 6)

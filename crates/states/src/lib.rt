@@ -20,7 +20,7 @@ pub struct Run {
 }
 
 // The lengths of the state slices, in bytes.
-pub const READER_LENGTH: usize = 16;
+pub const READER_LENGTH: usize = 20;
 
 pub const WRITER_LENGTH: usize = 32;
 
@@ -44,12 +44,15 @@ fn phase_meant(slice: &[u8]) -> bool
     numbers::number_at(slice, 8) <= 2
 }
 
-// Whether the phase of a reader's slice is a number that has a meaning.
+// Whether the phase and b4 of a reader's slice are numbers that have a meaning.
 pub fn reader_meant(slice: &[u8]) -> bool
     requires { ⌜ length (now slice) ≡ readerLength ⌝ }
     ensures { λ r. ⌜ r ≡ readerMeant (now (slice .entry)) ⌝ }
 {
-    phase_meant(slice)
+    if !phase_meant(slice) {
+        return false;
+    }
+    numbers::number_at(slice, 16) <= 1
 }
 
 // Whether the phase and b4 of a writer's slice, and a call's `warn`, are numbers that have a meaning.
@@ -90,6 +93,7 @@ pub fn reader_of(slice: &[u8]) -> Reader
         size: run.size,
         next: run.next,
         phase,
+        warned: numbers::number_at(slice, 16) == 1,
         sum: run.sum,
     }
 }

@@ -37,19 +37,21 @@ fn keep(slice: &mut [u8], at: usize, n: u32)
     }
 }
 
-// The three numbers that a group changes, in a slice that has the size already.
+// The four numbers that a group changes, in a slice that has the size already.
 pub fn put_next(slice: &mut [u8], r: Reader)
     requires { ⌜ (length (now slice) ≡ readerLength) × (r .size ≡ numberAt 4 (now slice) 0) ⌝ }
     ensures { λ _. ⌜ now (slice .exit) ≡ readerBytes r ⌝ }
 {
     let phase = r.phase;
     let phase = phase_number(phase);
+    let b4 = b4_number(r.warned);
     keep(slice, 4, r.next);
     keep(slice, 8, phase);
     keep(slice, 12, r.sum);
+    keep(slice, 16, b4);
 }
 
-// The state's four numbers, over all that stood in the slice.
+// The state's five numbers, over all that stood in the slice.
 fn put_reader(slice: &mut [u8], r: Reader)
     requires { ⌜ length (now slice) ≡ readerLength ⌝ }
     ensures { λ _. ⌜ now (slice .exit) ≡ readerBytes r ⌝ }

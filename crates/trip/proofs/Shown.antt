@@ -74,25 +74,25 @@ spanned =
     }
 
 -- .. and the reading of it.
-pub given-back : GivesBackC 64 1 (replicate 16 0xEE) (replicate 24 0xEE) (spanned .run) (spanned .loans)
+pub given-back : GivesBackC 64 1 (replicate 20 0xEE) (replicate 24 0xEE) (spanned .run) (spanned .loans)
     (record { finished = recordItem (from 1 45) ∷ separatorItem 1 ∷ []; begun = []; asked = [] })
-given-back = c-returned 64 1 (spanned .state) (spanned .group) (spanned .run) _ _ (spanned .wrote) (replicate 16 0xEE) (replicate 24 0xEE) (spanned .loans) refl refl (spanned .lent)
+given-back = c-returned 64 1 (spanned .state) (spanned .group) (spanned .run) _ _ (spanned .wrote) (replicate 20 0xEE) (replicate 24 0xEE) (spanned .loans) refl refl (spanned .lent)
 
 -- A run that our writer never lays: a record broken where there is room left, into two middles of one length, whatever their bytes;
 -- gap bytes of 7. It is read from C to its end ..
-pub foreign : (x y z w : ℕ) → AcceptedC 64 1 (replicate 16 0xEE) (replicate 24 0xEE) (runOf 1 (equalMiddles x y z w)) (loan 24 ∷ loan 24 ∷ loan 25 ∷ loan 36 ∷ [])
+pub foreign : (x y z w : ℕ) → AcceptedC 64 1 (replicate 20 0xEE) (replicate 24 0xEE) (runOf 1 99 (equalMiddles x y z w)) (loan 24 ∷ loan 24 ∷ loan 25 ∷ loan 36 ∷ [])
 unfolding groupOf runOf
 foreign x y z w =
-    c-complete 64 1 (replicate 16 0xEE) (replicate 24 0xEE) _ _ _ (loan 24 ∷ loan 24 ∷ loan 25 ∷ loan 36 ∷ []) (middles-shown x y z w .lays) refl refl
+    c-complete 64 1 (replicate 20 0xEE) (replicate 24 0xEE) _ _ _ (loan 24 ∷ loan 24 ∷ loan 25 ∷ loan 36 ∷ []) (middles-shown x y z w .lays) refl refl
     (LentC.lent-more (leb-true _ _ refl) refl
     (LentC.lent-more (leb-true _ _ refl) refl
     (LentC.lent-more (leb-true _ _ refl) refl
     (LentC.lent-more (leb-true _ _ refl) refl LentC.lent-none))))
 
 -- .. and with the two exchanged it is refused with 5, although its total matches.
-pub foreign-exchanged : (x y z w : ℕ) → OutOfOrderC 64 1 (replicate 16 0xEE) (replicate 24 0xEE) (groupOf 1 9 (aStart (1 ∷ []) ∷ []) ∷ []) (groupOf 3 9 (aMiddle (z ∷ w ∷ []) ∷ []))
-    (groupOf 2 9 (aMiddle (x ∷ y ∷ []) ∷ []) ∷ groupOf 4 9 (aLast (4 ∷ []) ∷ aTotal 6 ∷ []) ∷ [])
+pub foreign-exchanged : (x y z w : ℕ) → OutOfOrderC 64 1 (replicate 20 0xEE) (replicate 24 0xEE) (groupOf 1 99 (aStart (1 ∷ []) ∷ []) ∷ []) (groupOf 3 95 (aMiddle (z ∷ w ∷ []) ∷ []))
+    (groupOf 2 97 (aMiddle (x ∷ y ∷ []) ∷ []) ∷ groupOf 4 93 (aLast (4 ∷ []) ∷ aTotal 6 ∷ []) ∷ [])
 unfolding runOf
 foreign-exchanged x y z w =
-    c-exchanged 64 1 (replicate 16 0xEE) (replicate 24 0xEE) (groupOf 1 9 (aStart (1 ∷ []) ∷ []) ∷ []) [] (groupOf 4 9 (aLast (4 ∷ []) ∷ aTotal 6 ∷ []) ∷ [])
-    (groupOf 2 9 (aMiddle (x ∷ y ∷ []) ∷ [])) (groupOf 3 9 (aMiddle (z ∷ w ∷ []) ∷ [])) _ (foreign x y z w)
+    c-exchanged 64 1 (replicate 20 0xEE) (replicate 24 0xEE) (groupOf 1 99 (aStart (1 ∷ []) ∷ []) ∷ []) [] (groupOf 4 93 (aLast (4 ∷ []) ∷ aTotal 6 ∷ []) ∷ [])
+    (groupOf 2 97 (aMiddle (x ∷ y ∷ []) ∷ [])) (groupOf 3 95 (aMiddle (z ∷ w ∷ []) ∷ [])) _ (foreign x y z w)

@@ -186,7 +186,7 @@ laid-shut w taken v room n m t =
       next = refl;
       filled = refl;
       none = refl;
-      b4 = refl;
+      b4 = m .mark;
     }
 
 laid-done : {c : Call} (w v : Desk) → b4After c (w .state .warned) ≡ (warnOf c || w .state .warned) → (m : On c w v) → m .bytes ≡ offerOf c → LaidBy c w (finished v .answer) (finished v .group)

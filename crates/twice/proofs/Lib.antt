@@ -2,6 +2,7 @@
 pub mod Paid
 pub mod Fills
 pub mod Lays
+pub mod Warned
 pub mod Takes
 pub mod Rows
 pub mod InOrder

@@ -2,6 +2,7 @@
 -- Assumes nothing.
 use Prim.Native.Nat.{ℕ, _≤_}
 use mathlib.Core.List.{List}
+use mathlib.Core.Bool.{true}
 use mathlib.Core.Path.{_≡_, _∙_}
 use lib.ListN.{length}
 use Rattle.answer.specs.Answer.{refusalTold}
@@ -11,7 +12,7 @@ use Rattle.reader.specs.Answer as reading
 use Rattle.reader.specs.Answer.{readerStartCall, asNumbers, Reads}
 use Rattle.laying.specs.Start.{writerStartCall}
 use Rattle.laying.specs.Laying.{Desk}
-use Rattle.writer.specs.Calls.{Call, call, told, startTold}
+use Rattle.writer.specs.Calls.{Call, call, told, startTold, stateOf}
 use Rattle.writer.proofs.Theorems.{refusal-told}
 use Rattle.layout.specs.Layout.{Image}
 use Rattle.layout.specs.Writing.{Account, Wrote}
@@ -22,6 +23,7 @@ use Rattle.twice.specs.RowsAre.{RowsAre}
 use Rattle.twice.specs.Orders.{FirstBroken, startRules, callRules, BeforeScan}
 use Rattle.twice.proofs.Fills as filling
 use Rattle.twice.proofs.Lays as laying
+use Rattle.twice.proofs.Warned as staying
 use Rattle.twice.proofs.Takes as taking
 use Rattle.twice.proofs.Rows as rowed
 use Rattle.twice.proofs.InOrder as ordered
@@ -32,10 +34,14 @@ pub fills : (c : Call) (w : Desk) → FilledBy c w (call c w .answer) (call c w 
 fills = filling.fills
 
 -- "Every other byte that isn't a new data byte or new entry stays." Below the old table come only the new entries, each with b4 as
--- this call or an earlier one of the group set it; behind the old data come only bytes of the offer, from its first, and a close
+-- this call or an earlier one of the run set it; behind the old data come only bytes of the offer, from its first, and a close
 -- says how many. Old table and old data stay, and where the call finishes so does each byte between them.
 pub lays : (c : Call) (w : Desk) → LaidBy c w (call c w .answer) (call c w .group)
 lays = laying.lays
+
+-- "a close no longer clears it": b4 that is set stays set, whatever call comes, and where that is refused too.
+pub warned-stays : (c : Call) (w : Desk) → w .state .warned ≡ true → stateOf (call c w .answer) .warned ≡ true
+warned-stays = staying.warned-stays
 
 -- "Useless versions: refusing all": in a run that was written from its start, with whatever calls and refusals, no proper call is
 -- refused while a group number remains.

@@ -2,7 +2,7 @@
 -- Assumes nothing.
 use Prim.Native.Nat.{ℕ, _+_, _≤_, _<_}
 use mathlib.Core.List.{List, [], _++_}
-use mathlib.Core.Bool.{Bool, false, _||_}
+use mathlib.Core.Bool.{Bool, _||_}
 use mathlib.Core.Path.{_≡_}
 use lib.ListN.{length, take, drop, getD}
 use Rattle.group.specs.declared.Entry.{Entry}
@@ -35,7 +35,7 @@ pub record LaidIn (c : Call) (w : Desk) (entries : ℕ) (group : List ℕ) : Typ
   pub offered : bytes ≡ take (length bytes) (offerOf c)
   pub behind : take (w .state .filled + length bytes) group ≡ take (w .state .filled) (w .group) ++ bytes
 
--- "A call may set b4; it then stays set to the close." "An end that closes nothing leaves the state as it came, b4 included."
+-- "A call may set b4"; it then stays set. "An end that closes nothing leaves the state as it came, b4 included."
 abbrev pub b4After : Call → Bool → Bool
 b4After (aRecord bytes warn) b4 = warn || b4
 b4After (aSeparator value warn) b4 = warn || b4
@@ -49,8 +49,8 @@ pub record FinishedIn (c : Call) (w : Desk) (s : Writer) (group : List ℕ) : Ty
   pub between : (i : ℕ) → s .filled ≤ i → i < entryOffset (w .state .size) (s .entries) → getD group i 0 ≡ getD (w .group) i 0
   pub b4 : s .warned ≡ b4After c (w .state .warned)
 
--- ".. or closes the group and says its number, its entry count and how many bytes it took": those that it laid. "After a close d, e
--- and b4 begin anew and the number is one higher."
+-- ".. or closes the group and says its number, its entry count and how many bytes it took": those that it laid. After a close d and
+-- e begin anew "and the number is one higher"; b4 is as the skip has it: "a close no longer clears it".
 pub record ClosedIn (c : Call) (w : Desk) (s : Writer) (number entries taken : ℕ) (group : List ℕ) : Type 0 where
   pub laid : LaidIn c w entries group
   pub took : taken ≡ length (laid .bytes)
@@ -58,7 +58,7 @@ pub record ClosedIn (c : Call) (w : Desk) (s : Writer) (number entries taken : �
   pub next : s .next ≡ number + 1
   pub filled : s .filled ≡ 0
   pub none : s .entries ≡ 0
-  pub b4 : s .warned ≡ false
+  pub b4 : s .warned ≡ (warnOf c || w .state .warned)
 
 -- By a call's answer.
 abbrev pub LaidBy : Call → Desk → WriteAnswer → List ℕ → Type 0

@@ -196,7 +196,6 @@ left-finished w t c e =
             more = c .carried .more;
             done = c .carried .done;
             held = λ h. e;
-            clear = λ h. absurd (omega arith);
             spent = λ h. absurd (omega arith);
           };
       stays = t .stays;
@@ -221,7 +220,6 @@ left-closed taken w t c =
             more = c .more;
             done = c .done;
             held = λ h. h;
-            clear = λ h. refl;
             spent = λ h. (refl, refl);
           };
       stays = stays-put (s .filled) (replicate gap 0) (omega arith) (stays-put (entryOffset (s .size) (s .entries + 1)) (entryBytes e) (omega arith) (t .stays));

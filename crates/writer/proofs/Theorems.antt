@@ -119,7 +119,6 @@ sound-fresh size first e =
       more = λ h. absurd (true≢false (sym h));
       done = λ h. refl;
       held = λ h. h;
-      clear = λ h. refl;
       spent = λ h. (refl, refl);
     })
 

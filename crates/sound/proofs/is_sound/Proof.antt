@@ -2,8 +2,8 @@
 use borrow.Author.Needs.{needs}
 use mathlib.Core.Path.{_∙_}
 use Rattle.numbers.proofs.Tests.{fails, holds}
-use Rattle.sound.proofs.Exits.{RunMet, RoomMet, EmptyMet, RestMet, DataMet, ClearMet}
-use Rattle.sound.proofs.Exits.{run-lacks, room-lacks, empty-lacks, rest-lacks, data-lacks, clear-lacks, spent-decides}
+use Rattle.sound.proofs.Exits.{RunMet, RoomMet, EmptyMet, RestMet, DataMet}
+use Rattle.sound.proofs.Exits.{run-lacks, room-lacks, empty-lacks, rest-lacks, data-lacks, spent-decides}
 use Rattle.sound.proofs.is_sound.Statement.{statement}
 use Rattle.sound.proofs.is_sound.Tie as tie
 
@@ -23,9 +23,6 @@ rest-met c = (empty-met (c .before .before), holds (c .before .rest-kept .ensure
 data-met : (c : tie.Else5) → DataMet (c .before .before .before .before .before .before .before .before .before .before .args .w)
 data-met c = (rest-met (c .before .before), holds (c .before .data-kept .ensures) (c .if5 .left))
 
-clear-met : (c : tie.Else6) → ClearMet (c .before .before .before .before .before .before .before .before .before .before .before .before .args .w)
-clear-met c = (data-met (c .before .before), holds (c .before .clear-kept .ensures) (c .if6 .left))
-
 pub is-sound-spec : {M : Type 1} → statement M
 is-sound-spec =
     tie.close
@@ -41,6 +38,4 @@ is-sound-spec =
     (λ c κs. search needs)
     (λ c. data-lacks _ (rest-met (c .before .before)) (fails (c .before .data-kept .ensures) (c .if5 .taken)))
     (λ c κs. search needs)
-    (λ c. clear-lacks _ (data-met (c .before .before)) (fails (c .before .clear-kept .ensures) (c .if6 .taken)))
-    (λ c κs. search needs)
-    (λ c. c .spent-kept .ensures ∙ spent-decides _ (clear-met (c .before))))
+    (λ c. c .spent-kept .ensures ∙ spent-decides _ (data-met (c .before))))

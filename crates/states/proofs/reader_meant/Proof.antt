@@ -1,13 +1,20 @@
--- `reader_meant` meets its contract. Assumes nothing.
+-- `reader_meant` meets its contract: the tests of the definition, in its order. Assumes nothing.
 use borrow.Author.Needs.{needs}
-use Rattle.states.specs.States.{readerMeant}
+use mathlib.Core.Path.{ap, _∙_}
+use Prim.Native.Nat.{ℕ}
+use Rattle.numbers.proofs.Tests.{fails, holds}
+use Rattle.states.specs.States.{b4Meant}
+use Rattle.states.proofs.NumberLaws.{reader-unmeant, reader-by-b4}
 use Rattle.states.proofs.reader_meant.Statement.{statement}
 use Rattle.states.proofs.reader_meant.Tie as tie
 
 pub reader-meant-spec : {M : Type 1} → statement M
-unfolding readerMeant
 reader-meant-spec =
     tie.close
     (tie.spec
     (λ c κs. search needs)
-    (λ c. c .phase-meant .ensures))
+    (λ c. reader-unmeant _ (fails (c .before .phase-meant .ensures) (c .if1 .taken)))
+    (λ c κs. search needs)
+    (λ c.
+    let d = c .before in
+    ap (λ (n : ℕ). b4Meant n) (c .number-at .ensures) ∙ reader-by-b4 _ (holds (d .before .phase-meant .ensures) (d .if1 .left))))

@@ -10,4 +10,5 @@ reader-of-spec =
     tie.close
     (tie.spec
     (λ c κs. search needs)
-    (λ c. rw (c .run-of .ensures)))
+    (λ c κs. search needs)
+    (λ c. rw (c .before .run-of .ensures, c .number-at .ensures)))

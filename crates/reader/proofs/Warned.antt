@@ -1,0 +1,114 @@
+-- Change request 2026-03: b4 goes on from group to group, and 9 meets the first entry of a group that drops it.
+-- Assumes nothing.
+use mathlib.Core.Path.{_≡_, refl, sym, ap, _∙_}
+use mathlib.Core.Bool.{Bool, true, false, false≢true}
+use mathlib.Core.List.{List, [], _∷_}
+use Prim.Native.Nat.{ℕ, zero, suc, _*_, _-_, _≤_}
+use native.Mathlib.Omega.{arith}
+use lib.Dec.{eqb}
+use lib.ListN.{length}
+use Rattle.group.specs.declared.Entry.{Entry}
+use Rattle.group.specs.declared.Kind.{Kind}
+use Rattle.group.specs.declared.Meaning.{Meaning}
+use Rattle.group.specs.declared.Meaning.the-variants.{Known, Unknown}
+use Rattle.group.specs.Sizes.{informationLength, entryLength, entryOffset}
+use Rattle.group.specs.Flags.{meaningOf, b4Of}
+use Rattle.group.specs.Entries.{entryAt, entriesBelow}
+use Rattle.group.proofs.FlagLaws.{b4-of-meaning}
+use Rattle.entry.specs.declared.Cursor.{Cursor}
+use Rattle.entry.specs.declared.ScanEnd.the-variants as scanned
+use Rattle.entry.specs.Rules.{b4Kept, entryFault}
+use Rattle.entry.specs.Scan.{after, isLast, scan}
+use Rattle.entry.proofs.Faults.{kept, dropped, unknown-fault}
+use Rattle.entry.proofs.Scans.{went-on}
+use Rattle.scan.proofs.Turns.{turn}
+use Rattle.reader.specs.declared.Reader.{Reader}
+use Rattle.reader.specs.declared.ReadAnswer.{ReadAnswer}
+use Rattle.reader.specs.declared.ReadAnswer.the-variants as answer
+use Rattle.reader.specs.Answer.{opening, groupScan, readRefusal, readCall, stateOf}
+use Rattle.reader.specs.Refused.{RefusedRead}
+use Rattle.reader.proofs.Accepted.{Passed, ready, accepted, read-scanned}
+use Rattle.reader.proofs.Refused.{read-refuses}
+
+kept-set : (before warned : Bool) → b4Kept before warned ≡ true → before ≡ true → warned ≡ true
+kept-set true warned e h = e
+kept-set false warned e h = absurd (false≢true h)
+
+next-set : (size limit : ℕ) (last : Bool) (c : Cursor) (m : Meaning) (count : ℕ) → entryFault size limit last c m count ≡ 0 → c .warned ≡ true → after c m count .warned ≡ true
+next-set size limit last c Unknown count e h = h
+next-set size limit last c (Known k w) count e h = kept-set (c .warned) w (kept size limit last c k w count e .b4) h
+
+scan-set : (size limit : ℕ) (es : List Entry) (place : ℕ) (c d : Cursor) → c .warned ≡ true → scan size limit es place c ≡ scanned.Reached d → d .warned ≡ true
+unfolding scan
+scan-set size limit [] place c d h e = let f : c ≡ d = cc in rw (← f) h
+scan-set size limit (x ∷ es) place c d h e =
+    let m = meaningOf (x .flag) in
+    let next = after c m (x .count) in
+    let w = went-on (entryFault size limit (isLast es) c m (x .count)) place c d (scan size limit es (suc place) next) e in
+    scan-set size limit es (suc place) next d (next-set size limit (isLast es) c m (x .count) (w .0) h) (w .1)
+
+as-given : {s t : Reader} {n refusal place : ℕ} → RefusedRead s n t refusal place → t ≡ s
+as-given (RefusedRead.before-the-scan told) = refl
+as-given (RefusedRead.at-an-entry told low high) = refl
+
+-- b4 that is set stays set, whatever is read next, and where that is refused too: "all following entries of this and all following
+-- groups".
+pub warned-stays : (s : Reader) (group : List ℕ) (number n room : ℕ) → s .warned ≡ true → stateOf (readCall s group number n room) .warned ≡ true
+unfolding groupScan
+warned-stays s group number n room h = by (readCall s group number n room) refl
+  where
+    by : (a : ReadAnswer) → readCall s group number n room ≡ a → stateOf a .warned ≡ true
+    by (answer.Accepted t) e =
+        let p = accepted s t group number n room e in
+        ap (λ (r : Reader). r .warned) (p .left) ∙ scan-set _ _ _ 1 (opening s) (p .end) h (p .reached)
+    by (answer.Refused t refusal place) e = ap (λ (r : Reader). r .warned) (as-given (read-refuses s t group number n room refusal place e)) ∙ h
+
+-- What a scan of some entries leaves of b4 is what the last of them has.
+by-meaning : (size limit : ℕ) (last : Bool) (c : Cursor) (flag count : ℕ) (m : Meaning) → meaningOf flag ≡ m → entryFault size limit last c m count ≡ 0 → after c m count .warned ≡ b4Of flag
+by-meaning size limit last c flag count Unknown e f = absurd (unknown-fault size limit last c count f)
+by-meaning size limit last c flag count (Known k w) e f = sym (b4-of-meaning flag k w e)
+
+scan-leaves : (size limit : ℕ) (group : List ℕ) (top n place : ℕ) (c d : Cursor) → scan size limit (entriesBelow group top (suc n)) place c ≡ scanned.Reached d
+    → d .warned ≡ b4Of (entryAt group (top - entryLength * suc n) .flag)
+unfolding scan entriesBelow
+scan-leaves size limit group top zero place c d e =
+    let x = entryAt group (top - 4) in
+    let m = meaningOf (x .flag) in
+    let w = went-on (entryFault size limit true c m (x .count)) place c d (scanned.Reached (after c m (x .count))) e in
+    let f : after c m (x .count) ≡ d = cc in
+    rw (← f) (by-meaning size limit true c (x .flag) (x .count) m refl (w .0))
+scan-leaves size limit group top (suc n) place c d e =
+    let x = entryAt group (top - 4) in
+    let m = meaningOf (x .flag) in
+    let rest = entriesBelow group (top - 4) (suc n) in
+    let next = after c m (x .count) in
+    let w = went-on (entryFault size limit (isLast rest) c m (x .count)) place c d (scan size limit rest (suc place) next) e in
+    let same : top - 4 - 4 * suc n ≡ top - 4 * suc (suc n) = omega arith in
+    scan-leaves size limit group (top - 4) n (suc place) next d (w .1) ∙ ap (λ (at : ℕ). b4Of (entryAt group at .flag)) same
+
+-- An accepted read leaves b4 as the group's last entry, its skip, has it.
+pub left-by-skip : (s t : Reader) (group : List ℕ) (number n room : ℕ) → readCall s group number n room ≡ answer.Accepted t
+    → t .warned ≡ b4Of (entryAt group (entryOffset (s .size) n) .flag)
+unfolding groupScan
+left-by-skip s t group number n room e = by n (p .ready .some) (p .reached)
+  where
+    p : Passed s t group number n room
+    p = accepted s t group number n room e
+
+    by : (k : ℕ) → 1 ≤ k → scan (s .size) (entryOffset (s .size) n) (entriesBelow group (s .size - informationLength) k) 1 (opening s) ≡ scanned.Reached (p .end)
+        → t .warned ≡ b4Of (entryAt group (entryOffset (s .size) k) .flag)
+    by zero h f = absurd (omega arith)
+    by (suc k) h f =
+        ap (λ (r : Reader). r .warned) (p .left) ∙ scan-leaves _ _ group (s .size - informationLength) k 1 (opening s) (p .end) f
+
+-- "9 now also meets the first entry of a later group": where the state has b4 set and nothing is refused before the scan, a first entry
+-- that has a kind and b4 clear.
+pub dropped-at-one : (s : Reader) (group : List ℕ) (number n room : ℕ) (k : Kind) → s .warned ≡ true → readRefusal s (length group) number n room ≡ 0
+    → meaningOf (entryAt group (s .size - informationLength - entryLength) .flag) ≡ Known k false → readCall s group number n room ≡ answer.Refused s 9 1
+unfolding groupScan
+dropped-at-one s group number n room k h r m =
+    let e = entryAt group (s .size - informationLength - entryLength) in
+    let lost : b4Kept (s .warned) false ≡ false = rw h in
+    let fault = dropped (s .size) (entryOffset (s .size) n) (eqb (n - 1) 0) (opening s) (meaningOf (e .flag)) k false (e .count) m lost in
+    sym (read-scanned s group number n room r (scanned.Refused 9 1 (opening s))
+    (turn group (s .size) (entryOffset (s .size) n) (s .size - informationLength) n 1 (opening s) e 9 (ready s (length group) number n room r .some) refl fault))
