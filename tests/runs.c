@@ -15,6 +15,7 @@ typedef struct { uint32_t number, entries; uint8_t *image; } closed_group;
 static account written;
 static closed_group *groups;
 static uint32_t group_count, group_most, laid; /* items wholly laid, the last one's total perhaps owed */
+static uint32_t seldom; /* one call in so many says warn */
 
 static void failed(const char *what, uint32_t a, uint32_t b)
 {
@@ -56,7 +57,7 @@ static uint32_t length(uint32_t size)
 static int offers(desk *d, uint32_t size, int from_model)
 {
     item *it = &written.items[written.n];
-    uint32_t warn = one_in(8), refusal, i, taken = 0;
+    uint32_t warn = one_in(seldom), refusal, i, taken = 0;
     it->separator = one_in(3);
     it->count = it->separator ? below(2) : length(size);
     it->at = written.bytes;
@@ -89,20 +90,43 @@ static int offers(desk *d, uint32_t size, int from_model)
 static void writes(desk *d, uint32_t size, uint32_t first, int from_model)
 {
     uint32_t items = below(MOST_ITEMS);
+    seldom = one_in(2) ? 8 : 80;
     written.n = written.bytes = group_count = laid = 0;
     resize(&d->of[GROUP], size);
     memset(d->of[GROUP].at, (int)below(256), size);
     both(d, WRITER_START, size, first, 0);
     while (items-- && offers(d, size, from_model))
-        if (one_in(12) && both(d, END, one_in(8), 0, 0) == 0 && closes(d)) put_away(d, from_model);
+        if (one_in(12) && both(d, END, one_in(seldom), 0, 0) == 0 && closes(d)) put_away(d, from_model);
     if (both(d, END, 0, 0, 0) == 0 && closes(d)) put_away(d, from_model);
     if (phase_of(d) == DDS_PHASE_OWED) laid--; /* no number remains for its total */
+}
+
+/* request 2026-03: a group that begins without b4 after one that ends with it is 9 at 1 */
+static void drops_b4(desk *d, const closed_group *g)
+{
+    uint8_t *flag = d->of[GROUP].at + d->of[GROUP].len - 36;
+    *flag &= 0xF7;
+    if (both(d, READ, g->number, g->entries, 0) != 9 || get(d->of[ANSWER].at + DDS_ANSWER_PLACE) != 1)
+        failed("b4 dropped", d->refusal, g->number);
+    *flag |= 8;
+}
+
+/* b4 behind a group's entries, each of which must have it where the one before has it */
+static uint32_t b4_behind(const closed_group *g, uint32_t size, uint32_t b4)
+{
+    uint32_t k;
+    for (k = 1; k <= g->entries; k++) {
+        uint32_t set = g->image[size - 32 - 4 * k] >> 3 & 1;
+        if (set < b4) failed("b4 went out", g->number, k);
+        b4 = set;
+    }
+    return b4;
 }
 
 /* reads the run and compares each item as it is finished; an open record's bytes so far as well */
 static void reads_back(desk *d, uint32_t size, uint32_t first)
 {
-    uint32_t g, k, done = 0, so_far = 0, phase;
+    uint32_t g, k, done = 0, so_far = 0, phase, b4 = 0;
     resize(&d->of[GROUP], size);
     both(d, READER_START, size, first, 0);
     for (g = 0; g < group_count; g++) {
@@ -110,6 +134,8 @@ static void reads_back(desk *d, uint32_t size, uint32_t first)
         memset(d->of[ROWS].at, (int)below(256), d->of[ROWS].len);
         memcpy(d->of[GROUP].at, groups[g].image, size);
         if (g + 1 < group_count && both(d, READ, groups[g + 1].number, groups[g].entries, 0) != 5) failed("a later number", g, 0);
+        if (b4) drops_b4(d, &groups[g]);
+        b4 = b4_behind(&groups[g], size, b4);
         if (both(d, READ, groups[g].number, groups[g].entries, 0)) {
             failed("a written group was refused", d->refusal, g);
             return;
@@ -138,6 +164,7 @@ static void reads_back(desk *d, uint32_t size, uint32_t first)
         phase = phase_of(d);
         if ((phase == DDS_PHASE_FREE) != (so_far == 0) || get(d->of[STATE].at + DDS_STATE_SUM) != so_far)
             failed("sum of an open record", phase, so_far);
+        if (get(d->of[STATE].at + DDS_READER_B4) != b4) failed("b4 of the state", g, b4);
     }
     if (done != laid) failed("less was read than was written", done, laid);
 }

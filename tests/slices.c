@@ -1,5 +1,6 @@
 /* Readings 2, 4 to 6 and 8: slices and arguments of the calls on groups, beside what examples.c tries on every call. What a start
-   is lent, warns without meaning, empty slices, row slices, and lengths of 2^32 and more that no rule forbids outright. */
+   is lent, a reader's state as it was before request 2026-03, warns without meaning, empty slices, row slices, and lengths of 2^32
+   and more that no rule forbids outright. */
 
 #define _DEFAULT_SOURCE
 #include "fence.h"
@@ -16,7 +17,7 @@ static desk lawful(void)
 /* reading 2: a start never looks at what the state slice holds */
 static void starts_over(void)
 {
-    desk r = reader(0xFFFFFFFF, 0xFFFFFFFF, 0xFFFFFFFF, 0xFFFFFFFF), w = writer(0, 0, 3, 9, 9, 9, 9, 9);
+    desk r = reader_b4(0xFFFFFFFF, 0xFFFFFFFF, 0xFFFFFFFF, 0xFFFFFFFF, 0xFFFFFFFF), w = writer(0, 0, 3, 9, 9, 9, 9, 9);
     reader_starts(&r, 64, 0x1234);
     finished(&r, "reading 2: reader start over garbage");
     reader_is(&r, "reading 2: reader start over garbage", 64, 0x1234, 0, 0);
@@ -27,6 +28,29 @@ static void starts_over(void)
     refused(&r, "reading 2: a refused start leaves the state", 2, 0);
     leave(&r);
     leave(&w);
+}
+
+/* request 2026-03: a reader's state of the 16 bytes that it had before is another length; with b4 put behind it, it is right */
+static void old_states(void)
+{
+    uint32_t b4;
+    for (b4 = 0; b4 < 3; b4++) {
+        desk s = lawful();
+        uint8_t state[DDS_READER_LEN];
+        put_reader(state, 64, 7, 0, 0, b4);
+        relend(&s.of[STATE], 16);
+        memcpy(s.of[STATE].at, state, 16);
+        reads(&s, 7, 2);
+        refused_unwritten(&s, "request 2026-03: a read with 16 bytes");
+        reader_starts(&s, 64, 7);
+        refused_unwritten(&s, "request 2026-03: a start with 16 bytes");
+        relend(&s.of[STATE], DDS_READER_LEN);
+        memcpy(s.of[STATE].at, state, DDS_READER_LEN);
+        reads(&s, 7, 2);
+        if (b4 == 0) finished(&s, "request 2026-03: with b4 put behind them");
+        else refused(&s, "request 2026-03: with b4 put behind them", b4 == 1 ? 9 : 1, b4 == 1);
+        leave(&s);
+    }
 }
 
 /* reading 4: a warn that has no meaning, before 4, also where an end would close nothing */
@@ -141,6 +165,7 @@ int main(void)
 {
     watch_fences();
     starts_over();
+    old_states();
     warns();
     empties();
     more_rows();
