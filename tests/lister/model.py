@@ -40,7 +40,7 @@ def kind_of(flag):
 
 
 def b4_kept(before, flag):
-    """9: "once an entry of a group has it set, every later entry of that group has it set". """
+    """9: once an entry has it set, "all following entries of this and all following groups" have it. """
     return not before or bool(flag & B4)
 
 

@@ -10,6 +10,7 @@ pub mod Sound
 pub mod Order
 pub mod Ending
 pub mod AddUp
+pub mod EarlyWarning
 pub mod Buffer
 pub mod Held
 pub mod Accounts

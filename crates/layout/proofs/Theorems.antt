@@ -17,6 +17,7 @@ use Rattle.layout.specs.Items.{Item, Each}
 use Rattle.layout.specs.Layout.{Image, Lays}
 use Rattle.layout.specs.Accepting.{Accepts, Lent}
 use Rattle.layout.specs.Counts.{AddsUp}
+use Rattle.layout.specs.EarlyWarning.{BeginsOnce}
 use Rattle.layout.specs.Reading.{OfBytes, itemsRead, begunRead}
 use Rattle.layout.specs.Stated.{EndsWith, AcceptedWith, AtEnd, OutOfOrder}
 use Rattle.layout.specs.Writing.{Account, Wrote, WasEnded}
@@ -29,6 +30,7 @@ use Rattle.layout.proofs.Sound.{lawful-from}
 use Rattle.layout.proofs.Order.{first-of, size-after, next-after, number-of, split, each-before, out-of-order}
 use Rattle.layout.proofs.Ending.{ends-with}
 use Rattle.layout.proofs.AddUp.{each-adds}
+use Rattle.layout.proofs.EarlyWarning as warned
 use Rattle.layout.proofs.Returned as written
 use Rattle.layout.proofs.Ended as endings
 use Rattle.layout.proofs.TotalKept as totals
@@ -47,8 +49,8 @@ module _ (size first : ℕ) (s : Reader) (begins : readerStartCall size first �
   accepted-to {run} {lent} l e = subst (λ (x : Reader). AcceptedTo x run lent (tailStand (l .tail)) (tailSum (l .tail))) is-fresh (complete-to l e)
 
   -- "Freedoms of a lawful layout: where a record is broken, where a group ends early with a skip while free, a skip after a
-  -- last, the entry where b4 begins in each group, all gap bytes, the last 32 bytes, and the first group number." Whichever are
-  -- taken, the run is accepted, with any row buffers that are long enough.
+  -- last", "one entry of the whole run, or none, where b4 begins", "all gap bytes, the last 32 bytes, and the first group number".
+  -- Whichever are taken, the run is accepted, with any row buffers that are long enough.
   pub complete : (i : List Item) (b : List ℕ) (run : List Image) (lent : List (List ℕ)) → Lays size first i b run → Lent run lent → AcceptedWith s run lent b
   complete i b run lent l e =
       let a = accepted-to l e in
@@ -112,6 +114,10 @@ module _ (size first : ℕ) (s : Reader) (begins : readerStartCall size first �
   -- "Counts of kinds 3 to 7 add up to L": in every group of an accepted run.
   pub add-up : (run : List Image) (rows : List (List ℕ)) (final : Reader) → Accepts s run rows final → Each (AddsUp size) run
   add-up run rows final a = each-adds refl (from-fresh a)
+
+  -- "one entry of the whole run, or none, where b4 begins": in the tables of an accepted run, by their bytes.
+  pub begins-once : (run : List Image) (rows : List (List ℕ)) (final : Reader) → Accepts s run rows final → BeginsOnce size run
+  begins-once run rows final a = warned.begins-once refl refl (from-fresh a)
 
   -- "Numbers then rise by one": in an accepted run the k-th group, k from 0, bears the number first + k.
   pub numbered : (run : List Image) (rows : List (List ℕ)) (final : Reader) → Accepts s run rows final → (k : ℕ) → k < length run →

@@ -34,9 +34,16 @@ kept-set : (before warned : Bool) → b4Kept before warned ≡ true → before �
 kept-set true warned e h = e
 kept-set false warned e h = absurd (false≢true h)
 
-next-set : (size limit : ℕ) (last : Bool) (c : Cursor) (m : Meaning) (count : ℕ) → entryFault size limit last c m count ≡ 0 → c .warned ≡ true → after c m count .warned ≡ true
-next-set size limit last c Unknown count e h = h
-next-set size limit last c (Known k w) count e h = kept-set (c .warned) w (kept size limit last c k w count e .b4) h
+-- An entry that is passed has b4 where it stood set before it, and leaves it as its flag has it.
+pub entry-keeps : (size limit : ℕ) (last : Bool) (c : Cursor) (flag count : ℕ) → entryFault size limit last c (meaningOf flag) count ≡ 0 →
+    (b4Kept (c .warned) (b4Of flag) ≡ true) × (after c (meaningOf flag) count .warned ≡ b4Of flag)
+entry-keeps size limit last c flag count f = by (meaningOf flag) refl f
+  where
+    by : (m : Meaning) → meaningOf flag ≡ m → entryFault size limit last c m count ≡ 0 → (b4Kept (c .warned) (b4Of flag) ≡ true) × (after c m count .warned ≡ b4Of flag)
+    by Unknown e f = absurd (unknown-fault size limit last c count f)
+    by (Known k w) e f =
+        let b = b4-of-meaning flag k w e in
+        (rw b (kept size limit last c k w count f .b4), sym b)
 
 scan-set : (size limit : ℕ) (es : List Entry) (place : ℕ) (c d : Cursor) → c .warned ≡ true → scan size limit es place c ≡ scanned.Reached d → d .warned ≡ true
 unfolding scan
@@ -45,7 +52,8 @@ scan-set size limit (x ∷ es) place c d h e =
     let m = meaningOf (x .flag) in
     let next = after c m (x .count) in
     let w = went-on (entryFault size limit (isLast es) c m (x .count)) place c d (scan size limit es (suc place) next) e in
-    scan-set size limit es (suc place) next d (next-set size limit (isLast es) c m (x .count) (w .0) h) (w .1)
+    let k = entry-keeps size limit (isLast es) c (x .flag) (x .count) (w .0) in
+    scan-set size limit es (suc place) next d (k .1 ∙ kept-set (c .warned) (b4Of (x .flag)) (k .0) h) (w .1)
 
 as-given : {s t : Reader} {n refusal place : ℕ} → RefusedRead s n t refusal place → t ≡ s
 as-given (RefusedRead.before-the-scan told) = refl
@@ -64,10 +72,6 @@ warned-stays s group number n room h = by (readCall s group number n room) refl
     by (answer.Refused t refusal place) e = ap (λ (r : Reader). r .warned) (as-given (read-refuses s t group number n room refusal place e)) ∙ h
 
 -- What a scan of some entries leaves of b4 is what the last of them has.
-by-meaning : (size limit : ℕ) (last : Bool) (c : Cursor) (flag count : ℕ) (m : Meaning) → meaningOf flag ≡ m → entryFault size limit last c m count ≡ 0 → after c m count .warned ≡ b4Of flag
-by-meaning size limit last c flag count Unknown e f = absurd (unknown-fault size limit last c count f)
-by-meaning size limit last c flag count (Known k w) e f = sym (b4-of-meaning flag k w e)
-
 scan-leaves : (size limit : ℕ) (group : List ℕ) (top n place : ℕ) (c d : Cursor) → scan size limit (entriesBelow group top (suc n)) place c ≡ scanned.Reached d
     → d .warned ≡ b4Of (entryAt group (top - entryLength * suc n) .flag)
 unfolding scan entriesBelow
@@ -76,7 +80,7 @@ scan-leaves size limit group top zero place c d e =
     let m = meaningOf (x .flag) in
     let w = went-on (entryFault size limit true c m (x .count)) place c d (scanned.Reached (after c m (x .count))) e in
     let f : after c m (x .count) ≡ d = cc in
-    rw (← f) (by-meaning size limit true c (x .flag) (x .count) m refl (w .0))
+    rw (← f) (entry-keeps size limit true c (x .flag) (x .count) (w .0) .1)
 scan-leaves size limit group top (suc n) place c d e =
     let x = entryAt group (top - 4) in
     let m = meaningOf (x .flag) in
