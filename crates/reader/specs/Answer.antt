@@ -26,7 +26,7 @@ use Rattle.entry.specs.Rules.{standAt, phaseAfter}
 use Rattle.entry.specs.Scan.{scan}
 use Rattle.rows.specs.Rows.{rowsFrom}
 
--- "A reader starts with L and the first number." b4 is clear: "a fresh start does" clear it.
+-- "A reader starts with L and the first number." b4 is clear: "a close no longer clears it, a fresh start does".
 abbrev pub fresh : ℕ → ℕ → Reader
 fresh size first = record { size = size; next = first; phase = phase.Free; warned = false; sum = 0 }
 
