@@ -30,10 +30,6 @@ use Rattle.reader.specs.Refused.{RefusedRead}
 use Rattle.reader.proofs.Accepted.{Passed, ready, accepted, read-scanned}
 use Rattle.reader.proofs.Refused.{read-refuses}
 
-kept-set : (before warned : Bool) → b4Kept before warned ≡ true → before ≡ true → warned ≡ true
-kept-set true warned e h = e
-kept-set false warned e h = absurd (false≢true h)
-
 -- An entry that is passed has b4 where it stood set before it, and leaves it as its flag has it.
 pub entry-keeps : (size limit : ℕ) (last : Bool) (c : Cursor) (flag count : ℕ) → entryFault size limit last c (meaningOf flag) count ≡ 0 →
     (b4Kept (c .warned) (b4Of flag) ≡ true) × (after c (meaningOf flag) count .warned ≡ b4Of flag)
@@ -44,32 +40,6 @@ entry-keeps size limit last c flag count f = by (meaningOf flag) refl f
     by (Known k w) e f =
         let b = b4-of-meaning flag k w e in
         (rw b (kept size limit last c k w count f .b4), sym b)
-
-scan-set : (size limit : ℕ) (es : List Entry) (place : ℕ) (c d : Cursor) → c .warned ≡ true → scan size limit es place c ≡ scanned.Reached d → d .warned ≡ true
-unfolding scan
-scan-set size limit [] place c d h e = let f : c ≡ d = cc in rw (← f) h
-scan-set size limit (x ∷ es) place c d h e =
-    let m = meaningOf (x .flag) in
-    let next = after c m (x .count) in
-    let w = went-on (entryFault size limit (isLast es) c m (x .count)) place c d (scan size limit es (suc place) next) e in
-    let k = entry-keeps size limit (isLast es) c (x .flag) (x .count) (w .0) in
-    scan-set size limit es (suc place) next d (k .1 ∙ kept-set (c .warned) (b4Of (x .flag)) (k .0) h) (w .1)
-
-as-given : {s t : Reader} {n refusal place : ℕ} → RefusedRead s n t refusal place → t ≡ s
-as-given (RefusedRead.before-the-scan told) = refl
-as-given (RefusedRead.at-an-entry told low high) = refl
-
--- b4 that is set stays set, whatever is read next, and where that is refused too: "all following entries of this and all following
--- groups".
-pub warned-stays : (s : Reader) (group : List ℕ) (number n room : ℕ) → s .warned ≡ true → stateOf (readCall s group number n room) .warned ≡ true
-unfolding groupScan
-warned-stays s group number n room h = by (readCall s group number n room) refl
-  where
-    by : (a : ReadAnswer) → readCall s group number n room ≡ a → stateOf a .warned ≡ true
-    by (answer.Accepted t) e =
-        let p = accepted s t group number n room e in
-        ap (λ (r : Reader). r .warned) (p .left) ∙ scan-set _ _ _ 1 (opening s) (p .end) h (p .reached)
-    by (answer.Refused t refusal place) e = ap (λ (r : Reader). r .warned) (as-given (read-refuses s t group number n room refusal place e)) ∙ h
 
 -- What a scan of some entries leaves of b4 is what the last of them has.
 scan-leaves : (size limit : ℕ) (group : List ℕ) (top n place : ℕ) (c d : Cursor) → scan size limit (entriesBelow group top (suc n)) place c ≡ scanned.Reached d
@@ -104,6 +74,36 @@ left-by-skip s t group number n room e = by n (p .ready .some) (p .reached)
     by zero h f = absurd (omega arith)
     by (suc k) h f =
         ap (λ (r : Reader). r .warned) (p .left) ∙ scan-leaves _ _ group (s .size - informationLength) k 1 (opening s) (p .end) f
+
+kept-set : (before warned : Bool) → b4Kept before warned ≡ true → before ≡ true → warned ≡ true
+kept-set true warned e h = e
+kept-set false warned e h = absurd (false≢true h)
+
+scan-set : (size limit : ℕ) (es : List Entry) (place : ℕ) (c d : Cursor) → c .warned ≡ true → scan size limit es place c ≡ scanned.Reached d → d .warned ≡ true
+unfolding scan
+scan-set size limit [] place c d h e = let f : c ≡ d = cc in rw (← f) h
+scan-set size limit (x ∷ es) place c d h e =
+    let m = meaningOf (x .flag) in
+    let next = after c m (x .count) in
+    let w = went-on (entryFault size limit (isLast es) c m (x .count)) place c d (scan size limit es (suc place) next) e in
+    let k = entry-keeps size limit (isLast es) c (x .flag) (x .count) (w .0) in
+    scan-set size limit es (suc place) next d (k .1 ∙ kept-set (c .warned) (b4Of (x .flag)) (k .0) h) (w .1)
+
+as-given : {s t : Reader} {n refusal place : ℕ} → RefusedRead s n t refusal place → t ≡ s
+as-given (RefusedRead.before-the-scan told) = refl
+as-given (RefusedRead.at-an-entry told low high) = refl
+
+-- b4 that is set stays set, whatever is read next, and where that is refused too: "all following entries of this and all following
+-- groups".
+pub warned-stays : (s : Reader) (group : List ℕ) (number n room : ℕ) → s .warned ≡ true → stateOf (readCall s group number n room) .warned ≡ true
+unfolding groupScan
+warned-stays s group number n room h = by (readCall s group number n room) refl
+  where
+    by : (a : ReadAnswer) → readCall s group number n room ≡ a → stateOf a .warned ≡ true
+    by (answer.Accepted t) e =
+        let p = accepted s t group number n room e in
+        ap (λ (r : Reader). r .warned) (p .left) ∙ scan-set _ _ _ 1 (opening s) (p .end) h (p .reached)
+    by (answer.Refused t refusal place) e = ap (λ (r : Reader). r .warned) (as-given (read-refuses s t group number n room refusal place e)) ∙ h
 
 -- "9 now also meets the first entry of a later group": where the state has b4 set and nothing is refused before the scan, a first entry
 -- that has a kind and b4 clear.
