@@ -117,7 +117,7 @@ module _ (size first : ℕ) (s : Reader) (begins : readerStartCall size first �
 
   -- "one entry of the whole run, or none, where b4 begins": in the tables of an accepted run, by their bytes.
   pub begins-once : (run : List Image) (rows : List (List ℕ)) (final : Reader) → Accepts s run rows final → BeginsOnce size run
-  begins-once run rows final a = warned.begins-once refl refl (from-fresh a)
+  begins-once run rows final a = warned.begins-once refl (from-fresh a)
 
   -- "Numbers then rise by one": in an accepted run the k-th group, k from 0, bears the number first + k.
   pub numbered : (run : List Image) (rows : List (List ℕ)) (final : Reader) → Accepts s run rows final → (k : ℕ) → k < length run →

@@ -1,7 +1,7 @@
 -- Change request 2026-03: where b4 begins in a run, by the bytes of its tables.
 -- Assumes nothing.
 use Prim.Native.Nat.{ℕ, _-_}
-use mathlib.Core.List.{List, [], _∷_, _++_}
+use mathlib.Core.List.{List, [], _∷_, _++_, map}
 use mathlib.Core.Bool.{Bool, true, false}
 use mathlib.Core.Path.{_≡_}
 use lib.ListN.{replicate}
@@ -11,15 +11,10 @@ use Rattle.group.specs.Flags.{b4Of}
 use Rattle.group.specs.Entries.{entriesBelow}
 use Rattle.layout.specs.Layout.{Image}
 
--- b4 of each entry.
-unfoldable pub b4sOf : List Entry → List Bool
-b4sOf [] = []
-b4sOf (e ∷ es) = b4Of (e .flag) ∷ b4sOf es
-
--- b4 of each entry of a run of groups of this size, in the order of the groups and of their entries.
-unfoldable pub b4sIn : ℕ → List Image → List Bool
-b4sIn size [] = []
-b4sIn size (g ∷ gs) = b4sOf (entriesBelow (g .bytes) (size - informationLength) (g .entries)) ++ b4sIn size gs
+-- The entries of a run of groups of this size, group after group.
+unfoldable pub entriesOfRun : ℕ → List Image → List Entry
+entriesOfRun size [] = []
+entriesOfRun size (g ∷ gs) = entriesBelow (g .bytes) (size - informationLength) (g .entries) ++ entriesOfRun size gs
 
 -- Clear in some, and set in all that follow them.
 pub record SetOnce (b4s : List Bool) : Type 0 where
@@ -29,4 +24,4 @@ pub record SetOnce (b4s : List Bool) : Type 0 where
 
 -- "one entry of the whole run, or none, where b4 begins"
 abbrev pub BeginsOnce : ℕ → List Image → Type 0
-BeginsOnce size run = SetOnce (b4sIn size run)
+BeginsOnce size run = SetOnce (map (λ (e : Entry). b4Of (e .flag)) (entriesOfRun size run))

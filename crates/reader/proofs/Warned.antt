@@ -1,7 +1,7 @@
 -- Change request 2026-03: b4 goes on from group to group, and 9 meets the first entry of a group that drops it.
 -- Assumes nothing.
-use mathlib.Core.Path.{_≡_, refl, sym, ap, _∙_}
-use mathlib.Core.Bool.{Bool, true, false, false≢true}
+use mathlib.Core.Path.{_≡_, refl, sym, ap, _∙_, subst}
+use mathlib.Core.Bool.{Bool, true, false}
 use mathlib.Core.List.{List, [], _∷_}
 use Prim.Native.Nat.{ℕ, zero, suc, _*_, _-_, _≤_}
 use native.Mathlib.Omega.{arith}
@@ -27,7 +27,7 @@ use Rattle.reader.specs.declared.ReadAnswer.{ReadAnswer}
 use Rattle.reader.specs.declared.ReadAnswer.the-variants as answer
 use Rattle.reader.specs.Answer.{opening, groupScan, readRefusal, readCall, stateOf}
 use Rattle.reader.specs.Refused.{RefusedRead}
-use Rattle.reader.proofs.Accepted.{Passed, ready, accepted, read-scanned}
+use Rattle.reader.proofs.Accepted.{ready, accepted, read-scanned}
 use Rattle.reader.proofs.Refused.{read-refuses}
 
 -- An entry that is passed has b4 where it stood set before it, and leaves it as its flag has it.
@@ -41,53 +41,50 @@ entry-keeps size limit last c flag count f = by (meaningOf flag) refl f
         let b = b4-of-meaning flag k w e in
         (rw b (kept size limit last c k w count f .b4), sym b)
 
--- What a scan of some entries leaves of b4 is what the last of them has.
-scan-leaves : (size limit : ℕ) (group : List ℕ) (top n place : ℕ) (c d : Cursor) → scan size limit (entriesBelow group top (suc n)) place c ≡ scanned.Reached d
-    → d .warned ≡ b4Of (entryAt group (top - entryLength * suc n) .flag)
-unfolding scan entriesBelow
-scan-leaves size limit group top zero place c d e =
-    let x = entryAt group (top - 4) in
-    let m = meaningOf (x .flag) in
-    let w = went-on (entryFault size limit true c m (x .count)) place c d (scanned.Reached (after c m (x .count))) e in
-    let f : after c m (x .count) ≡ d = cc in
-    rw (← f) (entry-keeps size limit true c (x .flag) (x .count) (w .0) .1)
-scan-leaves size limit group top (suc n) place c d e =
-    let x = entryAt group (top - 4) in
-    let m = meaningOf (x .flag) in
-    let rest = entriesBelow group (top - 4) (suc n) in
-    let next = after c m (x .count) in
-    let w = went-on (entryFault size limit (isLast rest) c m (x .count)) place c d (scan size limit rest (suc place) next) e in
-    let same : top - 4 - 4 * suc n ≡ top - 4 * suc (suc n) = omega arith in
-    scan-leaves size limit group (top - 4) n (suc place) next d (w .1) ∙ ap (λ (at : ℕ). b4Of (entryAt group at .flag)) same
+-- b4 along entries, each of which keeps it: from what stood before them to what they leave.
+pub data Keeps : Bool → List Entry → Bool → Type 0 where
+  none : {b : Bool} → Keeps b [] b
+  one : {before left : Bool} {e : Entry} {es : List Entry} → b4Kept before (b4Of (e .flag)) ≡ true → Keeps (b4Of (e .flag)) es left → Keeps before (e ∷ es) left
 
--- An accepted read leaves b4 as the group's last entry, its skip, has it.
-pub left-by-skip : (s t : Reader) (group : List ℕ) (number n room : ℕ) → readCall s group number n room ≡ answer.Accepted t
-    → t .warned ≡ b4Of (entryAt group (entryOffset (s .size) n) .flag)
-unfolding groupScan
-left-by-skip s t group number n room e = by n (p .ready .some) (p .reached)
-  where
-    p : Passed s t group number n room
-    p = accepted s t group number n room e
-
-    by : (k : ℕ) → 1 ≤ k → scan (s .size) (entryOffset (s .size) n) (entriesBelow group (s .size - informationLength) k) 1 (opening s) ≡ scanned.Reached (p .end)
-        → t .warned ≡ b4Of (entryAt group (entryOffset (s .size) k) .flag)
-    by zero h f = absurd (omega arith)
-    by (suc k) h f =
-        ap (λ (r : Reader). r .warned) (p .left) ∙ scan-leaves _ _ group (s .size - informationLength) k 1 (opening s) (p .end) f
-
-kept-set : (before warned : Bool) → b4Kept before warned ≡ true → before ≡ true → warned ≡ true
-kept-set true warned e h = e
-kept-set false warned e h = absurd (false≢true h)
-
-scan-set : (size limit : ℕ) (es : List Entry) (place : ℕ) (c d : Cursor) → c .warned ≡ true → scan size limit es place c ≡ scanned.Reached d → d .warned ≡ true
+scan-keeps : (size limit : ℕ) (es : List Entry) (place : ℕ) (c d : Cursor) → scan size limit es place c ≡ scanned.Reached d → Keeps (c .warned) es (d .warned)
 unfolding scan
-scan-set size limit [] place c d h e = let f : c ≡ d = cc in rw (← f) h
-scan-set size limit (x ∷ es) place c d h e =
+scan-keeps size limit [] place c d e = let f : c ≡ d = cc in rw (← f) Keeps.none
+scan-keeps size limit (x ∷ es) place c d e =
     let m = meaningOf (x .flag) in
     let next = after c m (x .count) in
     let w = went-on (entryFault size limit (isLast es) c m (x .count)) place c d (scan size limit es (suc place) next) e in
     let k = entry-keeps size limit (isLast es) c (x .flag) (x .count) (w .0) in
-    scan-set size limit es (suc place) next d (k .1 ∙ kept-set (c .warned) (b4Of (x .flag)) (k .0) h) (w .1)
+    Keeps.one (k .0) (subst (λ (b : Bool). Keeps b es (d .warned)) (k .1) (scan-keeps size limit es (suc place) next d (w .1)))
+
+-- The entries of an accepted group keep b4, from the state that was given to the state that is left.
+pub read-keeps : (s t : Reader) (group : List ℕ) (number n room : ℕ) → readCall s group number n room ≡ answer.Accepted t →
+    Keeps (s .warned) (entriesBelow group (s .size - informationLength) n) (t .warned)
+unfolding groupScan
+read-keeps s t group number n room e =
+    let p = accepted s t group number n room e in
+    rw (p .left) (scan-keeps (s .size) (entryOffset (s .size) n) (entriesBelow group (s .size - informationLength) n) 1 (opening s) (p .end) (p .reached))
+
+-- What entries leave is what the last of them has.
+keeps-last : {before left : Bool} (group : List ℕ) (top n : ℕ) → Keeps before (entriesBelow group top (suc n)) left → left ≡ b4Of (entryAt group (top - entryLength * suc n) .flag)
+unfolding entriesBelow
+keeps-last group top zero (Keeps.one h Keeps.none) = refl
+keeps-last group top (suc n) (Keeps.one h k) =
+    let same : top - 4 - 4 * suc n ≡ top - 4 * suc (suc n) = omega arith in
+    keeps-last group (top - 4) n k ∙ ap (λ (at : ℕ). b4Of (entryAt group at .flag)) same
+
+-- An accepted read leaves b4 as the group's last entry, its skip, has it.
+pub left-by-skip : (s t : Reader) (group : List ℕ) (number n room : ℕ) → readCall s group number n room ≡ answer.Accepted t
+    → t .warned ≡ b4Of (entryAt group (entryOffset (s .size) n) .flag)
+left-by-skip s t group number n room e = by n (accepted s t group number n room e .ready .some) (read-keeps s t group number n room e)
+  where
+    by : (k : ℕ) → 1 ≤ k → Keeps (s .warned) (entriesBelow group (s .size - informationLength) k) (t .warned) → t .warned ≡ b4Of (entryAt group (entryOffset (s .size) k) .flag)
+    by zero h f = absurd (omega arith)
+    by (suc k) h f = keeps-last group (s .size - informationLength) k f
+
+-- Set before them, it is set behind them.
+keeps-set : {before left : Bool} {es : List Entry} → Keeps before es left → before ≡ true → left ≡ true
+keeps-set Keeps.none h = h
+keeps-set (Keeps.one k ks) h = keeps-set ks (rw h at k)
 
 as-given : {s t : Reader} {n refusal place : ℕ} → RefusedRead s n t refusal place → t ≡ s
 as-given (RefusedRead.before-the-scan told) = refl
@@ -96,13 +93,10 @@ as-given (RefusedRead.at-an-entry told low high) = refl
 -- b4 that is set stays set, whatever is read next, and where that is refused too: "all following entries of this and all following
 -- groups".
 pub warned-stays : (s : Reader) (group : List ℕ) (number n room : ℕ) → s .warned ≡ true → stateOf (readCall s group number n room) .warned ≡ true
-unfolding groupScan
 warned-stays s group number n room h = by (readCall s group number n room) refl
   where
     by : (a : ReadAnswer) → readCall s group number n room ≡ a → stateOf a .warned ≡ true
-    by (answer.Accepted t) e =
-        let p = accepted s t group number n room e in
-        ap (λ (r : Reader). r .warned) (p .left) ∙ scan-set _ _ _ 1 (opening s) (p .end) h (p .reached)
+    by (answer.Accepted t) e = keeps-set (read-keeps s t group number n room e) h
     by (answer.Refused t refusal place) e = ap (λ (r : Reader). r .warned) (as-given (read-refuses s t group number n room refusal place e)) ∙ h
 
 -- "9 now also meets the first entry of a later group": where the state has b4 set and nothing is refused before the scan, a first entry
