@@ -11,6 +11,9 @@ use Rattle.group.specs.declared.Kind.the-variants.{Total, Separator, Middle, St
 use Rattle.group.specs.declared.Meaning.{Meaning}
 use Rattle.group.specs.declared.Meaning.the-variants.{Known, Unknown}
 use Rattle.group.specs.Sizes.{longestRecord}
+use Rattle.group.specs.Flags.{meaningOf}
+use Rattle.group.specs.Coded.{Meant}
+use Rattle.group.proofs.FlagLaws.{meant-or}
 use Rattle.numbers.proofs.Tests.{passed}
 use Rattle.entry.specs.declared.Cursor.{Cursor}
 use Rattle.entry.specs.Rules.{isSkip, b4Kept, followKept, countFault, roomKept, skipKept, dataFault, entryFault, orElse, sumAfter, reachedAfter}
@@ -24,24 +27,24 @@ or-false true = refl
 or-false false = refl
 
 -- The number of an entry's fault, test by test, where its flag means a kind.
-module _ (size limit : ℕ) (last : Bool) (c : Cursor) (m : Meaning) (k : Kind) (w : Bool) (count : ℕ) (e : m ≡ Known k w) where
-  pub dropped : b4Kept (c .warned) w ≡ false → 9 ≡ entryFault size limit last c m count
+module _ (size limit : ℕ) (last : Bool) (c : Cursor) (k : Kind) (w : Bool) (count : ℕ) where
+  pub dropped : b4Kept (c .warned) w ≡ false → 9 ≡ entryFault size limit last c (Known k w) count
   unfolding entryFault
-  dropped h = rw (e, h)
+  dropped h = rw h
 
-  pub misplaced : b4Kept (c .warned) w ≡ true → followKept (c .stand) k last ≡ false → 10 ≡ entryFault size limit last c m count
+  pub misplaced : b4Kept (c .warned) w ≡ true → followKept (c .stand) k last ≡ false → 10 ≡ entryFault size limit last c (Known k w) count
   unfolding entryFault
-  misplaced h i = rw (e, h, i)
+  misplaced h i = rw (h, i)
 
   pub miscounted : b4Kept (c .warned) w ≡ true → followKept (c .stand) k last ≡ true → (n : ℕ) → n ≡ countFault k (c .sum) count → (n ≡ 0 → ⊥)
-      → n ≡ entryFault size limit last c m count
+      → n ≡ entryFault size limit last c (Known k w) count
   unfolding entryFault
-  miscounted h i n f z = rw (e, h, i, ← f, ne-eqb n 0 z)
+  miscounted h i n f z = rw (h, i, ← f, ne-eqb n 0 z)
 
   pub counted : b4Kept (c .warned) w ≡ true → followKept (c .stand) k last ≡ true → countFault k (c .sum) count ≡ 0
-      → dataFault size limit (c .reached) k count ≡ entryFault size limit last c m count
+      → dataFault size limit (c .reached) k count ≡ entryFault size limit last c (Known k w) count
   unfolding entryFault
-  counted h i f = rw (e, h, i, f)
+  counted h i f = rw (h, i, f)
 
 -- A total's count, against the sum of its parts.
 module _ (sum count : ℕ) where
@@ -100,6 +103,10 @@ module _ (size limit : ℕ) (last : Bool) (c : Cursor) (k : Kind) (w : Bool) (co
 pub unknown-fault : (size limit : ℕ) (last : Bool) (c : Cursor) (count : ℕ) → entryFault size limit last c Unknown count ≡ 0 → ⊥
 unfolding entryFault
 unknown-fault size limit last c count e = omega arith
+
+pub has-meaning : (size limit : ℕ) (last : Bool) (c : Cursor) (flag count : ℕ) → entryFault size limit last c (meaningOf flag) count ≡ 0 → Meant flag
+has-meaning size limit last c flag count e =
+    meant-or flag (λ u. absurd (unknown-fault size limit last c count (rw u at e))) (λ m. m)
 
 -- The sum stays within the longest record.
 pub sum-small : (k : Kind) (sum count : ℕ) → CountKept k sum count → sum ≤ longestRecord → sumAfter k sum count ≤ longestRecord

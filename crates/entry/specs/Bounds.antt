@@ -10,6 +10,7 @@ use lib.ListN.{length}
 use Rattle.group.specs.declared.Entry.{Entry}
 use Rattle.group.specs.Sizes.{standardSize, informationLength, entryLength, longestRecord}
 use Rattle.group.specs.Flags.{kinds, meaningOf}
+use Rattle.group.specs.Coded.{Meant}
 use Rattle.entry.specs.declared.Stand.{Stand}
 use Rattle.entry.specs.declared.Stand.the-variants.{Free, AfterPart, Inside, AfterLast, Owed}
 use Rattle.entry.specs.declared.Cursor.{Cursor}
@@ -43,10 +44,11 @@ pub record Bounded (limit : ℕ) (c : Cursor) : Type 0 where
   pub sum : c .sum ≤ longestRecord
   pub reached : c .reached ≤ limit
 
--- The data of these entries, from this offset on, stays within the limit.
+-- The flags of these entries have a meaning, and their data, from this offset on, stays within the limit.
 unfoldable pub Within : ℕ → ℕ → List Entry → Type 0
 Within limit reached [] = Unit {0}
-Within limit reached (e ∷ es) = (reached ≤ limit) × Within limit (reachedBy (meaningOf (e .flag)) reached (e .count)) es
+Within limit reached (e ∷ es) =
+    ((reached ≤ limit) × Meant (e .flag)) × Within limit (reachedBy (meaningOf (e .flag)) reached (e .count)) es
 
 -- 19 and 21 of a part with this count, up to which the parts add to so much, where `most` is allowed.
 abbrev pub partFault : (count parts most : ℕ) → ℕ

@@ -1,9 +1,10 @@
 // The rules of one entry, each as a number or a test.
 ghost use mathlib.Core.Path.{_≡_};
-ghost use Prim.Native.Nat.{_+_, _/_, _%_, _^_, _≤_, _<_};
+ghost use Prim.Native.Nat.{_≤_};
 ghost use Rattle.group.specs.Sizes.{standardSize, longestRecord};
+ghost use Rattle.group.specs.declared.Meaning.the-variants.{Known};
 ghost use Rattle.group.specs.Flags.{meaningOf};
-ghost use Rattle.group.specs.Coded.{codeOf, Below};
+ghost use Rattle.group.specs.Coded.{Meant};
 ghost use Rattle.entry.specs.Rules.{mayFollow, isSkip, holdsData, standAfter, sumAfter, reachedAfter, b4Kept, countFault, followKept, dataFault, entryFault};
 ghost use Rattle.entry.specs.Scan.{after, reachedBy};
 ghost use Rattle.entry.specs.Bounds.{standNumber, followTable, Bounded, partFault};
@@ -11,6 +12,7 @@ use crate::Cursor;
 use crate::Stand;
 use group::Group;
 use group::Kind;
+use group::Meaning;
 
 // By the stand's number and the kind's: whether an entry of that kind may follow. No kind has the number 0.
 const FOLLOWS: [[bool; 8]; 5] = [
@@ -186,27 +188,23 @@ fn b4_kept(before: bool, warned: bool) -> bool
     if before { warned } else { true }
 }
 
-// 8 to 10, 19 to 22, 12 and 13 of one entry, in this order: the number of the first rule that is broken, 0 if none is. `code` is
-// what the flag means, and `limit` is L − 32 − 4n.
-pub fn entry_fault(
+// 9, 10, 19 to 22, 12 and 13 of an entry whose flag means this, in this order: the number of the first rule that is broken, 0 if
+// none is. `limit` is L − 32 − 4n.
+fn known_fault(
     follows: &[[bool; 8]; 5],
     size: u32,
     limit: u32,
     last: bool,
     here: Cursor,
-    flag: u8,
-    code: u8,
+    kind: Kind,
+    warned: bool,
     count: u32,
 ) -> u32
-    requires { ⌜ (now follows ≡ followTable) × Below 16 (codeOf (meaningOf flag)) code ⌝ }
+    requires { ⌜ now follows ≡ followTable ⌝ }
     requires { ⌜ (Bounded limit here) × ((limit ≤ size) × ((size ≤ standardSize) × (count ≤ longestRecord))) ⌝ }
-    ensures { λ r. ⌜ r ≡ entryFault size limit last here (meaningOf flag) count ⌝ }
+    ensures { λ r. ⌜ r ≡ entryFault size limit last here (Known kind warned) count ⌝ }
 {
-    if code < 2 {
-        return 8;
-    }
-    let kind = group::flags::kind_of(code);
-    if !b4_kept(here.warned, group::flags::b4(flag)) {
+    if !b4_kept(here.warned, warned) {
         return 9;
     }
     let stand = here.stand;
@@ -220,39 +218,57 @@ pub fn entry_fault(
     data_fault(size, limit, here.reached, kind, count)
 }
 
+// All rules of one entry: 8 where its flag has no meaning, and then these.
+pub fn entry_fault(
+    follows: &[[bool; 8]; 5],
+    size: u32,
+    limit: u32,
+    last: bool,
+    here: Cursor,
+    meaning: Meaning,
+    count: u32,
+) -> u32
+    requires { ⌜ now follows ≡ followTable ⌝ }
+    requires { ⌜ (Bounded limit here) × ((limit ≤ size) × ((size ≤ standardSize) × (count ≤ longestRecord))) ⌝ }
+    ensures { λ r. ⌜ r ≡ entryFault size limit last here meaning count ⌝ }
+{
+    match meaning {
+        Meaning::Known(kind, warned) => {
+            known_fault(follows, size, limit, last, here, kind, warned, count)
+        }
+        Meaning::Unknown => 8,
+    }
+}
+
 // Where the scan stands after an entry.
-pub fn advance(here: Cursor, flag: u8, code: u8, count: u32) -> Cursor
-    requires { ⌜ Below 16 (codeOf (meaningOf flag)) code ⌝ }
+pub fn advance(here: Cursor, meaning: Meaning, count: u32) -> Cursor
     requires { ⌜ (here .sum ≤ longestRecord) × ((here .reached ≤ longestRecord) × (count ≤ longestRecord)) ⌝ }
-    ensures { λ r. ⌜ r ≡ after here (meaningOf flag) count ⌝ }
+    ensures { λ r. ⌜ r ≡ after here meaning count ⌝ }
 {
-    if code < 2 {
-        return here;
-    }
-    let kind = group::flags::kind_of(code);
-    let stand = here.stand;
-    Cursor {
-        stand: stand_after(stand, kind),
-        warned: group::flags::b4(flag),
-        sum: sum_after(kind, here.sum, count),
-        reached: reached_after(kind, here.reached, count),
+    match meaning {
+        Meaning::Known(kind, warned) => {
+            let stand = here.stand;
+            Cursor {
+                stand: stand_after(stand, kind),
+                warned,
+                sum: sum_after(kind, here.sum, count),
+                reached: reached_after(kind, here.reached, count),
+            }
+        }
+        Meaning::Unknown => here,
     }
 }
 
-// 1 where the count is bytes of user data of this group, which it is for kinds 3 to 6; 0 otherwise. One bit for each code: a
-// choice by the kind would be a jump that the processor guesses wrong where kinds come mixed.
-fn share(code: u8) -> u32
-    requires { ⌜ code < 16 ⌝ }
-    ensures { λ r. ⌜ r ≡ 16320 / 2 ^ code % 2 ⌝ }
-{
-    (0x3FC0 >> code) % 2
-}
-
-// The data offset reached after an entry.
-pub fn reached_by(flag: u8, code: u8, reached: u32, count: u32) -> u32
-    requires { ⌜ Below 16 (codeOf (meaningOf flag)) code ⌝ }
+// The data offset reached after an entry whose flag has a meaning. Kinds 3 to 6, whose count is bytes of user data of this group, are
+// those with b7: a choice by the kind would be a jump that the processor guesses wrong where kinds come mixed.
+pub fn reached_by(flag: u8, reached: u32, count: u32) -> u32
+    requires { ⌜ Meant flag ⌝ }
     requires { ⌜ (reached ≤ longestRecord) × (count ≤ longestRecord) ⌝ }
     ensures { λ r. ⌜ r ≡ reachedBy (meaningOf flag) reached count ⌝ }
 {
-    reached + count * share(code)
+    if flag / 64 % 2 == 1 {
+        reached + count
+    } else {
+        reached
+    }
 }

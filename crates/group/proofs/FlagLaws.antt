@@ -1,23 +1,22 @@
--- Laws of the flags: a flag and its meaning go both ways, b4 is the bit worth 8, and what the table of codes holds.
+-- Laws of the flags: a flag and its meaning go both ways, b4 is the bit worth 8, and what a flag's bits tell of its kind.
 -- Assumes nothing.
 use mathlib.Core.Path.{_≡_, refl, sym, ap, _∙_}
 use mathlib.Core.Bool.{Bool, true, false, not, cond}
 use mathlib.Core.List.{List, [], _∷_}
-use Prim.Native.Nat.{ℕ, _+_, _*_, _/_, _%_, _≤_, _<_}
+use Prim.Native.Nat.{ℕ, _+_, _-_, _/_, _%_, _<_}
 use native.Mathlib.Omega.{arith}
 use borrow.Author.Needs.{needs}
 use borrow.Author.Tests.{eqb-true}
 use lib.Bits.{bitAnd, bitOr}
-use lib.Dec.{T, eqb, eqb→eq}
+use lib.Dec.{T, eqb, ltb, eqb→eq}
 use lib.ListN.{getD}
-use Rattle.numbers.specs.Numbers.{listed}
 use Rattle.group.specs.declared.Kind.{Kind}
 use Rattle.group.specs.declared.Kind.the-variants.{Total, Separator, Middle, Start, Last, Entire, Skip}
 use Rattle.group.specs.declared.Meaning.{Meaning}
 use Rattle.group.specs.declared.Meaning.the-variants.{Known, Unknown}
 use Rattle.group.specs.Flags.{kinds, kindNumber, flagOf, meaningAmong, meaningOf, b4Of, withB4}
-use Rattle.group.specs.Coded.{codeOf, meaningBy, meaningOfCode, flagTable, Below}
-use Rattle.numbers.proofs.Computed.{below, listed-at}
+use Rattle.group.specs.Coded.{Meant}
+use Rattle.numbers.proofs.Computed.{below}
 
 -- What holds of each kind with b4 clear and with b4 set, so that a law of the fourteen flags is one computation.
 pub record Fourteen (P : Kind → Bool → Type 0) : Type 0 where
@@ -102,50 +101,35 @@ pub b4-raised : (flag : ℕ) → flag < 256 → bitOr flag 8 ≡ withB4 flag
 unfolding raised
 b4-raised flag h = eqb→eq (bitOr flag 8) (withB4 flag) (below raised 256 tt flag h)
 
--- A meaning has its code back, and a code is below 16.
-pub meaning-of-code : (m : Meaning) → meaningOfCode (codeOf m) ≡ m
-unfolding meaningOfCode
-meaning-of-code Unknown = refl
-meaning-of-code (Known k w) =
-    each (λ (k : Kind) (w : Bool). meaningOfCode (codeOf (Known k w)) ≡ Known k w) (search needs) k w
+-- A kind is told by its number.
+by-number : (k : Kind) → getD (Skip ∷ kinds) (kindNumber k) Skip ≡ k
+by-number k = each (λ (k : Kind) (w : Bool). getD (Skip ∷ kinds) (kindNumber k) Skip ≡ k) (search needs) k false
 
-pub code-small : (m : Meaning) → codeOf m < 16
-code-small Unknown = search needs
-code-small (Known k w) = each (λ (k : Kind) (w : Bool). codeOf (Known k w) < 16) (search needs) k w
+pub kind-is : (j k : Kind) → kindNumber j ≡ kindNumber k → j ≡ k
+kind-is j k e = sym (by-number j) ∙ ap (λ (n : ℕ). getD (Skip ∷ kinds) n Skip) e ∙ by-number k
 
--- A code below 2 is no kind's, and a kind whose number is half of a code is the kind of its meaning.
-pub code-known : (k : Kind) (w : Bool) → 2 ≤ codeOf (Known k w)
-code-known = each (λ (k : Kind) (w : Bool). 2 ≤ codeOf (Known k w)) (search needs)
+-- A flag has a meaning or has none.
+pub meant-or : {P : Type 0} (flag : ℕ) → (meaningOf flag ≡ Unknown → P) → (Meant flag → P) → P
+meant-or {P} flag none some = by (meaningOf flag) refl
+  where
+    by : (m : Meaning) → meaningOf flag ≡ m → P
+    by Unknown e = none e
+    by (Known k w) e = some (record { kind = k; warned = w; is = e })
 
-pub code-unknown : (m : Meaning) → codeOf m < 2 → m ≡ Unknown
-code-unknown Unknown h = refl
-code-unknown (Known k w) h = absurd (omega (arith, code-known k w))
+-- What the bits of a flag tell, computed at each of the fourteen: the number of its kind.
+abbrev pub numberByBits : ℕ → ℕ
+numberByBits flag = cond (ltb flag 16) 1 (flag / 16 - 1) + flag / 2 % 2
 
-by-number : (k : Kind) (w : Bool) → meaningBy (kindNumber k) w ≡ Known k w
-by-number = each (λ (k : Kind) (w : Bool). meaningBy (kindNumber k) w ≡ Known k w) (search needs)
+numbered : (k : Kind) (w : Bool) → numberByBits (flagOf k w) ≡ kindNumber k
+numbered = each (λ (k : Kind) (w : Bool). numberByBits (flagOf k w) ≡ kindNumber k) (search needs)
 
-pub known-of-code : (m : Meaning) (k : Kind) → kindNumber k ≡ codeOf m / 2 → Known k (eqb (codeOf m % 2) 1) ≡ m
-unfolding meaningOfCode
-known-of-code m k e =
-    let w = eqb (codeOf m % 2) 1 in
-    sym (by-number k w) ∙ ap (λ (n : ℕ). meaningBy n w) e ∙ meaning-of-code m
+pub number-by-bits : (flag : ℕ) (m : Meant flag) → numberByBits flag ≡ kindNumber (m .kind)
+number-by-bits flag m = ap numberByBits (flag-of-meaning flag (m .kind) (m .warned) (m .is)) ∙ numbered (m .kind) (m .warned)
 
--- What a flag means, by the kind that its code stands for and its bit b4.
-pub meaning-by-code : (flag code : ℕ) (k : Kind) (w : Bool) → Below 16 (codeOf (meaningOf flag)) code → kindNumber k ≡ code / 2 → w ≡ b4Of flag
-    → meaningOf flag ≡ Known k w
-meaning-by-code flag code k w b e f =
-    let m = known-of-code (meaningOf flag) k (e ∙ ap (λ (n : ℕ). n / 2) (b .is)) in
-    let bit = b4-of-meaning flag k (eqb (codeOf (meaningOf flag) % 2) 1) (sym m) in
-    sym m ∙ ap (Known k) (sym bit ∙ sym f)
+-- Where some kind has a flag, the flag of that kind with this b4 is this one ..
+pub flag-again : (flag : ℕ) (k : Kind) (m : Meant flag) → k ≡ m .kind → flagOf k (b4Of flag) ≡ flag
+flag-again flag k m e = rw (e, b4-of-meaning flag (m .kind) (m .warned) (m .is), ← flag-of-meaning flag (m .kind) (m .warned) (m .is))
 
-pub meaning-unknown : (flag code : ℕ) → Below 16 (codeOf (meaningOf flag)) code → code < 2 → meaningOf flag ≡ Unknown
-meaning-unknown flag code b h = code-unknown (meaningOf flag) (rw (b .is) at h)
-
--- The table has the code of what each flag means.
-pub code-in-table : (flag : ℕ) → flag < 256 → getD (getD flagTable (flag / 16) []) (flag % 16) 0 ≡ codeOf (meaningOf flag)
-unfolding flagTable
-code-in-table flag h =
-    let high : flag / 16 < 16 = omega arith in
-    let low : flag % 16 < 16 = omega arith in
-    let whole : 16 * (flag / 16) + flag % 16 ≡ flag = omega arith in
-    rw (listed-at (λ (a : ℕ). listed (λ (b : ℕ). codeOf (meaningOf (16 * a + b))) 0 16) [] 16 (flag / 16) high, listed-at (λ (b : ℕ). codeOf (meaningOf (16 * (flag / 16) + b))) 0 16 (flag % 16) low, whole)
+-- .. and where that is so of a kind, it is what the flag means.
+pub meaning-again : (flag : ℕ) (k : Kind) (w : Bool) → flagOf k w ≡ flag → Known k w ≡ meaningOf flag
+meaning-again flag k w e = sym (meaning-of-flag k w) ∙ ap meaningOf e

@@ -1,38 +1,11 @@
-// Flag bytes: from a kind and b4 to its flag, and from a flag to what it means.
+// Flag bytes: from a kind and b4 to its flag, and from a flag's bits to what it means.
 ghost use mathlib.Core.Path.{_≡_};
 ghost use mathlib.Core.Bool.{false};
-ghost use Prim.Native.Nat.{_/_, _≤_, _<_};
+ghost use Rattle.group.specs.declared.Kind.{Kind};
 ghost use Rattle.group.specs.Flags.{kindNumber, flagOf, meaningOf, b4Of, withB4};
-ghost use Rattle.group.specs.Coded.{codeOf, flagTable, Below};
+ghost use Rattle.group.specs.Coded.{Meant};
 use crate::Kind;
-
-// By a flag's high half and its low half: the code of what it means, which is twice the kind's number, one more where b4 is
-// set, and 0 where no kind has the flag.
-const FLAGS: [[u8; 16]; 16] = [
-    [0, 2, 0, 0, 0, 0, 0, 4, 0, 3, 0, 0, 0, 0, 0, 5],
-    [0, 0, 0, 0, 0, 0, 0, 0, 0, 0, 0, 0, 0, 0, 0, 0],
-    [0, 0, 0, 0, 0, 0, 0, 0, 0, 0, 0, 0, 0, 0, 0, 0],
-    [0, 0, 0, 0, 0, 0, 0, 0, 0, 0, 0, 0, 0, 0, 0, 0],
-    [6, 0, 8, 0, 0, 0, 0, 0, 7, 0, 9, 0, 0, 0, 0, 0],
-    [0, 0, 0, 0, 0, 0, 0, 0, 0, 0, 0, 0, 0, 0, 0, 0],
-    [10, 0, 0, 12, 0, 0, 0, 0, 11, 0, 0, 13, 0, 0, 0, 0],
-    [0, 0, 0, 0, 0, 0, 0, 0, 0, 0, 0, 0, 0, 0, 0, 0],
-    [14, 0, 0, 0, 0, 0, 0, 0, 15, 0, 0, 0, 0, 0, 0, 0],
-    [0, 0, 0, 0, 0, 0, 0, 0, 0, 0, 0, 0, 0, 0, 0, 0],
-    [0, 0, 0, 0, 0, 0, 0, 0, 0, 0, 0, 0, 0, 0, 0, 0],
-    [0, 0, 0, 0, 0, 0, 0, 0, 0, 0, 0, 0, 0, 0, 0, 0],
-    [0, 0, 0, 0, 0, 0, 0, 0, 0, 0, 0, 0, 0, 0, 0, 0],
-    [0, 0, 0, 0, 0, 0, 0, 0, 0, 0, 0, 0, 0, 0, 0, 0],
-    [0, 0, 0, 0, 0, 0, 0, 0, 0, 0, 0, 0, 0, 0, 0, 0],
-    [0, 0, 0, 0, 0, 0, 0, 0, 0, 0, 0, 0, 0, 0, 0, 0],
-];
-
-// The table, to be bound once for a group and lent to `code_in`: a constant is built anew at each use.
-pub fn table() -> [[u8; 16]; 16]
-    ensures { λ r. ⌜ r ≡ flagTable ⌝ }
-{
-    FLAGS
-}
+use crate::Meaning;
 
 // The number that stands for a kind in a row.
 pub fn kind_number(kind: Kind) -> u32
@@ -86,22 +59,22 @@ pub fn flag_of(kind: Kind, warned: bool) -> u8
     if warned { with_b4(flag) } else { flag }
 }
 
-// What a flag means, as its code in the lent table.
-pub fn code_in(flags: &[[u8; 16]; 16], flag: u8) -> u8
-    requires { ⌜ now flags ≡ flagTable ⌝ }
-    ensures { λ r. ⌜ Below 16 (codeOf (meaningOf flag)) r ⌝ }
+// The number of the kind that has a flag, if one has it: b8 to b5 leave two kinds, and b2 tells which of the two it is.
+pub fn number_by_bits(flag: u8) -> u8
+    ensures { λ r. ⌜ ((m : Meant flag) → r ≡ kindNumber (m .kind)) ⌝ }
 {
-    let high = (flag / 16) as usize;
-    let low = (flag % 16) as usize;
-    flags[high][low]
+    let second = flag / 2 % 2;
+    if flag < 16 {
+        return 1 + second;
+    }
+    flag / 16 - 1 + second
 }
 
-// The kind that a code stands for.
-pub fn kind_of(code: u8) -> Kind
-    requires { ⌜ (2 ≤ code) × (code < 16) ⌝ }
-    ensures { λ r. ⌜ kindNumber r ≡ code / 2 ⌝ }
+// The kind of this number, if a kind has it.
+pub fn kind_numbered(number: u8) -> Kind
+    ensures { λ r. ⌜ ((k : Kind) → number ≡ kindNumber k → r ≡ k) ⌝ }
 {
-    match code / 2 {
+    match number {
         1 => Kind::Total,
         2 => Kind::Separator,
         3 => Kind::Middle,
@@ -110,4 +83,16 @@ pub fn kind_of(code: u8) -> Kind
         6 => Kind::Entire,
         _ => Kind::Skip,
     }
+}
+
+// What a flag means. Its bits leave one kind, and no other can have it: that kind has it where its flag, with this b4, is this one.
+pub fn meaning_of(flag: u8) -> Meaning
+    ensures { λ r. ⌜ r ≡ meaningOf flag ⌝ }
+{
+    let kind = kind_numbered(number_by_bits(flag));
+    let warned = b4(flag);
+    if flag_of(kind, warned) != flag {
+        return Meaning::Unknown;
+    }
+    Meaning::Known(kind, warned)
 }

@@ -107,6 +107,6 @@ unfolding groupScan
 dropped-at-one s group number n room k h r m =
     let e = entryAt group (s .size - informationLength - entryLength) in
     let lost : b4Kept (s .warned) false ≡ false = rw h in
-    let fault = dropped (s .size) (entryOffset (s .size) n) (eqb (n - 1) 0) (opening s) (meaningOf (e .flag)) k false (e .count) m lost in
+    let fault = dropped (s .size) (entryOffset (s .size) n) (eqb (n - 1) 0) (opening s) k false (e .count) lost in
     sym (read-scanned s group number n room r (scanned.Refused 9 1 (opening s))
-    (turn group (s .size) (entryOffset (s .size) n) (s .size - informationLength) n 1 (opening s) e 9 (ready s (length group) number n room r .some) refl fault))
+    (turn group (s .size) (entryOffset (s .size) n) (s .size - informationLength) n 1 (opening s) e 9 (ready s (length group) number n room r .some) refl (rw m fault)))

@@ -6,7 +6,6 @@ ghost use mathlib.Core.Path.{_≡_};
 ghost use Prim.Native.Nat.{_/_};
 ghost use lib.ListN.{length};
 ghost use Rattle.numbers.specs.Numbers.{inBytes};
-ghost use Rattle.group.specs.Coded.{flagTable};
 ghost use Rattle.reader.specs.Answer.{readerStartCall, readRefusal, readCall, asNumbers, Reads};
 use entry::ScanEnd;
 use group::Group;
@@ -79,16 +78,9 @@ impl Reader {
         0
     }
 
-    // The judgement of a read, with the flag table lent. From here on the size is the group's length, which is at hand.
-    fn judge_in(
-        self,
-        flags: &[[u8; 16]; 16],
-        group: &[u8],
-        number: u32,
-        entries: u32,
-        room: usize,
-    ) -> ReadAnswer
-        requires { ⌜ now flags ≡ flagTable ⌝ }
+    // What a read answers that is lent rows for `room` numbers. Nothing is written. From the scan on the size is the group's length,
+    // which is at hand.
+    pub fn judge(self, group: &[u8], number: u32, entries: u32, room: usize) -> ReadAnswer
         ensures { λ r. ⌜ r ≡ readCall self (now (group .entry)) number entries room ⌝ }
     {
         let refusal = self.refusal(group.len(), number, entries, room);
@@ -101,7 +93,7 @@ impl Reader {
         }
         let opening = ends::opening(self);
         let size = group.len() as u32;
-        match scan::scan_entries(flags, group, size, entries, opening) {
+        match scan::scan_entries(group, size, entries, opening) {
             ScanEnd::Refused(fault, place, _) => ReadAnswer::Refused {
                 state: self,
                 refusal: fault,
@@ -111,23 +103,14 @@ impl Reader {
         }
     }
 
-    // What a read answers that is lent rows for `room` numbers. Nothing is written.
-    pub fn judge(self, group: &[u8], number: u32, entries: u32, room: usize) -> ReadAnswer
-        ensures { λ r. ⌜ r ≡ readCall self (now (group .entry)) number entries room ⌝ }
-    {
-        let flags = group::flags::table();
-        self.judge_in(&flags, group, number, entries, room)
-    }
-
     // Reads one group: the rows are filled once its last entry has passed.
     pub fn read(self, group: &[u8], number: u32, entries: u32, rows: &mut [u32]) -> ReadAnswer
         ensures { λ r. ⌜ Reads asNumbers self (now (group .entry)) number entries (length (now (rows .entry))) (now (rows .entry)) r (now (rows .exit)) ⌝ }
     {
-        let flags = group::flags::table();
-        let answer = self.judge_in(&flags, group, number, entries, rows.len());
+        let answer = self.judge(group, number, entries, rows.len());
         match answer {
             ReadAnswer::Accepted(_) => {
-                rows::fill(&flags, group, self.size, entries, rows);
+                rows::fill(group, self.size, entries, rows);
                 answer
             }
             ReadAnswer::Refused {
@@ -142,12 +125,11 @@ impl Reader {
     pub fn read_bytes(self, group: &[u8], number: u32, entries: u32, rows: &mut [u8]) -> ReadAnswer
         ensures { λ r. ⌜ Reads inBytes self (now (group .entry)) number entries (length (now (rows .entry)) / 4) (now (rows .entry)) r (now (rows .exit)) ⌝ }
     {
-        let flags = group::flags::table();
-        let answer = self.judge_in(&flags, group, number, entries, rows.len() / 4);
+        let answer = self.judge(group, number, entries, rows.len() / 4);
         match answer {
             ReadAnswer::Accepted(_) => {
                 let size = group.len() as u32;
-                rows::bytes::fill_bytes(&flags, group, size, entries, rows);
+                rows::bytes::fill_bytes(group, size, entries, rows);
                 answer
             }
             ReadAnswer::Refused {

@@ -1,24 +1,18 @@
 -- Loops that fill rows, whatever form a row is stored in: what is stored and what is left to store are the whole table's rows.
 -- Assumes nothing.
 use mathlib.Core.Path.{_≡_, refl, sym, ap, _∙_}
-use mathlib.Core.Bool.{Bool}
 use mathlib.Core.List.{List, [], _∷_}
-use Prim.Native.Nat.{ℕ, zero, suc, _+_, _*_, _-_, _/_, _≤_, _<_}
+use Prim.Native.Nat.{ℕ, zero, suc, _+_, _*_, _-_, _≤_, _<_}
 use native.Mathlib.Nat.{not-suc-le-zero}
 use native.Mathlib.Omega.{arith}
-use borrow.Author.Needs.{needs}
 use lib.ListN.{length}
 use Rattle.numbers.specs.Store.{put}
 use Rattle.numbers.proofs.Stores.{put-none}
 use Rattle.group.specs.declared.Entry.{Entry}
-use Rattle.group.specs.declared.Kind.{Kind}
-use Rattle.group.specs.declared.Meaning.{Meaning}
-use Rattle.group.specs.declared.Meaning.the-variants.{Known, Unknown}
 use Rattle.group.specs.Sizes.{entryOffset}
 use Rattle.group.specs.Entries.{entryAt, entriesBelow}
-use Rattle.group.specs.Flags.{meaningOf}
-use Rattle.group.specs.Coded.{codeOf, Below}
-use Rattle.group.proofs.FlagLaws.{each}
+use Rattle.group.specs.Flags.{kindNumber, meaningOf}
+use Rattle.group.specs.Coded.{Meant}
 use Rattle.entry.specs.Scan.{reachedBy}
 use Rattle.entry.specs.Bounds.{Within}
 use Rattle.rows.specs.Rows.{rowKind, rowsFrom}
@@ -35,20 +29,16 @@ row-turn group top (suc m) reached e kind next some is k n =
 
 pub within-turn : (group : List ℕ) (limit top left reached : ℕ) (e : Entry) (next : ℕ) → 0 < left → e ≡ entryAt group (top - 4)
     → next ≡ reachedBy (meaningOf (e .flag)) reached (e .count) → Within limit reached (entriesBelow group top left)
-    → (reached ≤ limit) × Within limit next (entriesBelow group (top - 4) (left - 1))
+    → ((reached ≤ limit) × Meant (e .flag)) × Within limit next (entriesBelow group (top - 4) (left - 1))
 unfolding Within entriesBelow
 within-turn group limit top zero reached e next some is n w = absurd (not-suc-le-zero some)
 within-turn group limit top (suc m) reached e next some is n w =
     let less : suc m - 1 ≡ m = omega arith in
-    (w .0, rw (n, is, less) (w .1))
+    (rw is (w .0), rw (n, is, less) (w .1))
 
--- Half of a code is the first number of its row.
-pub row-kind : (m : Meaning) {code : ℕ} → Below 16 (codeOf m) code → code / 2 ≡ rowKind m
-row-kind m {code} b = ap (λ (n : ℕ). n / 2) (b .is) ∙ half m
-  where
-    half : (m : Meaning) → codeOf m / 2 ≡ rowKind m
-    half Unknown = refl
-    half (Known k w) = each (λ (k : Kind) (w : Bool). codeOf (Known k w) / 2 ≡ rowKind (Known k w)) (search needs) k w
+-- The number of its kind is the first number of a row.
+pub row-kind : (flag number : ℕ) → Meant flag → ((m : Meant flag) → number ≡ kindNumber (m .kind)) → number ≡ rowKind (meaningOf flag)
+row-kind flag number m is = rw (m .is) (is m)
 
 -- `form` is how a list of row numbers is stored.
 pub record Filled (form : List ℕ → List ℕ) (group old : List ℕ) (size entries : ℕ) (rows : List ℕ) (top left reached i : ℕ) : Type 0 where
@@ -72,9 +62,9 @@ module _ (form : List ℕ → List ℕ) (width : ℕ) (group old : List ℕ) (si
             ∙ f .same;
       }
 
--- The data reached before an entry is within the limit.
+-- The data reached before an entry is within the limit, and its flag has a meaning.
 pub filled-reach : {form : List ℕ → List ℕ} (group old : List ℕ) (size entries : ℕ) (rows : List ℕ) (top left reached i : ℕ) (e : Entry) → 0 < left → e ≡ entryAt group (top - 4)
-    → Filled form group old size entries rows top left reached i → reached ≤ entryOffset size entries
+    → Filled form group old size entries rows top left reached i → (reached ≤ entryOffset size entries) × Meant (e .flag)
 filled-reach group old size entries rows top left reached i e some is f =
     within-turn group _ top left reached e _ some is refl (f .kept) .0
 

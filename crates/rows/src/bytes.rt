@@ -8,7 +8,7 @@ ghost use Rattle.group.specs.Sizes.{informationLength, longestRecord, entryOffs
 ghost use Rattle.numbers.specs.Store.{put};
 ghost use Rattle.group.specs.Entries.{entryAt, entriesBelow};
 ghost use Rattle.group.specs.Flags.{meaningOf};
-ghost use Rattle.group.specs.Coded.{flagTable};
+ghost use Rattle.group.specs.Coded.{Meant};
 ghost use Rattle.entry.specs.Scan.{reachedBy};
 ghost use Rattle.entry.specs.Bounds.{Cut, Within};
 ghost use Rattle.rows.specs.Rows.{rowKind, rowsFrom};
@@ -17,31 +17,21 @@ use group::Group;
 
 // The row of the entry at `at`, as bytes from index `i` on. Answers the data offset reached after it. Between two numbers'
 // stores stands a load: a number's four byte stores become one where no other store is next to them.
-fn put_row(
-    flags: &[[u8; 16]; 16],
-    group: &[u8],
-    at: usize,
-    reached: u32,
-    rows: &mut [u8],
-    i: usize,
-) -> u32
-    requires { ⌜ now flags ≡ flagTable ⌝ }
+fn put_row(group: &[u8], at: usize, reached: u32, rows: &mut [u8], i: usize) -> u32
     requires { ⌜ (at + 4 ≤ length (now group)) × (i + 12 ≤ length (now rows)) ⌝ }
-    requires { ⌜ reached ≤ longestRecord ⌝ }
+    requires { ⌜ (reached ≤ longestRecord) × Meant (entryAt (now group) at .flag) ⌝ }
     ensures { λ r. ⌜ r ≡ reachedBy (meaningOf (entryAt (now (group .entry)) at .flag)) reached (entryAt (now (group .entry)) at .count) ⌝ }
     ensures { λ _. ⌜ now (rows .exit) ≡ put (now (rows .entry)) i (inBytes (rowKind (meaningOf (entryAt (now (group .entry)) at .flag)) ∷ reached ∷ entryAt (now (group .entry)) at .count ∷ [])) ⌝ }
 {
     let flag = group[at];
     numbers::put_number(rows, i + 4, reached);
     let count = group::entries::move_count(rows, i + 8, group, at, flag);
-    let code = group::flags::code_in(flags, flag);
-    numbers::put_number(rows, i, (code / 2) as u32);
-    rules::reached_by(flag, code, reached, count)
+    numbers::put_number(rows, i, group::flags::number_by_bits(flag) as u32);
+    rules::reached_by(flag, reached, count)
 }
 
 // The same numbers as bytes, twelve an entry.
-pub fn fill_bytes(flags: &[[u8; 16]; 16], group: &[u8], size: u32, entries: u32, rows: &mut [u8])
-    requires { ⌜ now flags ≡ flagTable ⌝ }
+pub fn fill_bytes(group: &[u8], size: u32, entries: u32, rows: &mut [u8])
     requires { ⌜ Cut (now group) size entries ⌝ }
     requires { ⌜ Within (entryOffset size entries) 0 (entriesBelow (now group) (size - informationLength) entries) ⌝ }
     requires { ⌜ 12 * entries ≤ length (now rows) ⌝ }
@@ -54,7 +44,7 @@ pub fn fill_bytes(flags: &[[u8; 16]; 16], group: &[u8], size: u32, entries: u32,
     while 0 < left {
         top = top - Group::ENTRY_LENGTH;
         left = left - 1;
-        reached = put_row(flags, group, top as usize, reached, rows, i);
+        reached = put_row(group, top as usize, reached, rows, i);
         i = i + 12;
     }
 }

@@ -8,15 +8,13 @@ ghost use lib.ListN.{length};
 ghost use Rattle.group.specs.Sizes.{informationLength, entryOffset};
 ghost use Rattle.numbers.specs.Store.{put};
 ghost use Rattle.group.specs.Entries.{entriesBelow};
-ghost use Rattle.group.specs.Coded.{flagTable};
 ghost use Rattle.entry.specs.Bounds.{Cut, Within};
 ghost use Rattle.rows.specs.Rows.{rowsFrom};
 use entry::rules;
 use group::Group;
 
 // Three numbers an entry, from the table's top downward.
-pub fn fill(flags: &[[u8; 16]; 16], group: &[u8], size: u32, entries: u32, rows: &mut [u32])
-    requires { ⌜ now flags ≡ flagTable ⌝ }
+pub fn fill(group: &[u8], size: u32, entries: u32, rows: &mut [u32])
     requires { ⌜ Cut (now group) size entries ⌝ }
     requires { ⌜ Within (entryOffset size entries) 0 (entriesBelow (now group) (size - informationLength) entries) ⌝ }
     requires { ⌜ 3 * entries ≤ length (now rows) ⌝ }
@@ -32,11 +30,10 @@ pub fn fill(flags: &[[u8; 16]; 16], group: &[u8], size: u32, entries: u32, rows:
         let entry = group::entries::entry_at(group, top as usize);
         let flag = entry.flag;
         let count = entry.count;
-        let code = group::flags::code_in(flags, flag);
-        rows[i] = (code / 2) as u32;
+        rows[i] = group::flags::number_by_bits(flag) as u32;
         rows[i + 1] = reached;
         rows[i + 2] = count;
-        reached = rules::reached_by(flag, code, reached, count);
+        reached = rules::reached_by(flag, reached, count);
         i = i + 3;
     }
 }

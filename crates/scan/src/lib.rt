@@ -6,7 +6,6 @@ ghost use mathlib.Core.Path.{_≡_};
 ghost use Prim.Native.Nat.{_-_};
 ghost use Rattle.group.specs.Sizes.{informationLength, entryOffset};
 ghost use Rattle.group.specs.Entries.{entriesBelow};
-ghost use Rattle.group.specs.Coded.{flagTable};
 ghost use Rattle.entry.specs.Scan.{scan};
 ghost use Rattle.entry.specs.Bounds.{Cut, Bounded};
 use entry::Cursor;
@@ -16,14 +15,7 @@ use group::Group;
 
 // Entry by entry downward from the table's top, stopping at the first that breaks a rule. Separators and entire records
 // between records are passed in stretches.
-pub fn scan_entries(
-    flags: &[[u8; 16]; 16],
-    group: &[u8],
-    size: u32,
-    entries: u32,
-    opening: Cursor,
-) -> ScanEnd
-    requires { ⌜ now flags ≡ flagTable ⌝ }
+pub fn scan_entries(group: &[u8], size: u32, entries: u32, opening: Cursor) -> ScanEnd
     requires { ⌜ (Cut (now group) size entries) × Bounded (entryOffset size entries) opening ⌝ }
     ensures { λ r. ⌜ r ≡ scan size (entryOffset size entries) (entriesBelow (now (group .entry)) (size - informationLength) entries) 1 opening ⌝ }
 {
@@ -47,15 +39,14 @@ pub fn scan_entries(
         left = left - 1;
         let at = limit + Group::ENTRY_LENGTH * left;
         let entry = group::entries::entry_at(group, at as usize);
-        let flag = entry.flag;
         let count = entry.count;
-        let code = group::flags::code_in(flags, flag);
+        let meaning = group::flags::meaning_of(entry.flag);
         let follows = rules::follows();
-        let fault = rules::entry_fault(&follows, size, limit, left == 0, here, flag, code, count);
+        let fault = rules::entry_fault(&follows, size, limit, left == 0, here, meaning, count);
         if fault != 0 {
             break ScanEnd::Refused(fault, entries - left, here);
         }
-        here = rules::advance(here, flag, code, count);
+        here = rules::advance(here, meaning, count);
         if left == 0 {
             break ScanEnd::Reached(here);
         }

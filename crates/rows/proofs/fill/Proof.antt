@@ -3,10 +3,11 @@ use mathlib.Core.Path.{_≡_, refl, ap, _∙_}
 use mathlib.Core.List.{List, [], _∷_}
 use Prim.Native.Nat.{ℕ, _+_, _*_, _-_, _≤_, _<_}
 use native.Mathlib.Omega.{arith}
+use borrow.Author.Needs.{needs}
 use lib.ListN.{length, set, length-set}
 use Rattle.group.specs.Sizes.{entryOffset}
 use Rattle.numbers.specs.Store.{put}
-use Rattle.group.specs.Flags.{meaningOf}
+use Rattle.group.specs.Coded.{Meant}
 use Rattle.numbers.proofs.Stores.{put-three, put-put}
 use Rattle.rows.proofs.Filling.{row-kind, Filled, filled-turn, filled-reach, filled-done}
 use Rattle.rows.proofs.fill.Statement.{statement}
@@ -27,20 +28,20 @@ abbrev form : List ℕ → List ℕ
 form vs = vs
 
 abbrev Inv-loop : tie.InvT-loop
-Inv-loop flags group size entries rows₀ top₀ left₀ reached₀ i₀ rows top left reached i =
+Inv-loop group size entries rows₀ top₀ left₀ reached₀ i₀ rows top left reached i =
     (Counts size entries (length rows) top left i) × Filled form group rows₀ size entries rows top left reached i
 
 abbrev μ-loop : tie.MeasureT-loop
-μ-loop flags group size entries rows₀ top₀ left₀ reached₀ i₀ rows top left reached i = left
+μ-loop group size entries rows₀ top₀ left₀ reached₀ i₀ rows top left reached i = left
 
 -- Three numbers stored, and what is stored after them.
 three : (rows : List ℕ) (i a b c : ℕ) (more : List ℕ) → put (set (set (set rows i a) (i + 1) b) (i + 2) c) (i + 3) more ≡ put rows i (a ∷ b ∷ c ∷ more)
 three rows i a b c more = ap (λ (l : List ℕ). put l (i + 3) more) (put-three rows i a b c) ∙ put-put rows i (a ∷ b ∷ c ∷ []) more
 
-reach : (c : tie.After-code-in Inv-loop μ-loop) → c .before .before .before .loop .reached ≤ entryOffset (c .before .before .before .before .before .before .args .size) (c .before .before .before .before .before .before .args .entries)
+reach : (c : tie.After-entry-at Inv-loop μ-loop) → (c .before .before .loop .reached ≤ entryOffset (c .before .before .before .before .before .args .size) (c .before .before .before .before .before .args .entries)) × Meant (c .entry-at .result .flag)
 reach c =
-    let l = c .before .before .before .loop in
-    filled-reach _ _ _ _ (l .rows) (l .top) (l .left) (l .reached) (l .i) (c .before .entry-at .result) (c .before .before .loop-test .taken) (c .before .entry-at .ensures .0) (l .inv .1)
+    let l = c .before .before .loop in
+    filled-reach _ _ _ _ (l .rows) (l .top) (l .left) (l .reached) (l .i) (c .entry-at .result) (c .before .loop-test .taken) (c .entry-at .ensures .0) (l .inv .1)
 
 loop-again : tie.Need-loop-again Inv-loop μ-loop
 loop-again c =
@@ -48,7 +49,7 @@ loop-again c =
     let t = c .before .before .before .loop-test .taken in
     let x = c .before .before .entry-at in (
       simp length-set (onto (l .inv .0) t),
-      filled-turn form 3 _ _ _ _ (l .rows) _ (l .top) (l .left) (l .reached) (l .i) (x .result) _ _ t (x .ensures .0) (row-kind (meaningOf (x .result .flag)) (c .before .code-in .ensures)) (c .reached-by .ensures) (simp length-set) (λ more. three (l .rows) (l .i) _ _ _ more) (l .inv .1),
+      filled-turn form 3 _ _ _ _ (l .rows) _ (l .top) (l .left) (l .reached) (l .i) (x .result) _ _ t (x .ensures .0) (row-kind _ _ (reach (c .before .before) .1) (c .before .number-by-bits .ensures)) (c .reached-by .ensures) (simp length-set) (λ more. three (l .rows) (l .i) _ _ _ more) (l .inv .1),
     )
 
 pub fill-spec : {M : Type 1} → statement M
@@ -58,13 +59,13 @@ fill-spec =
     Inv-loop
     μ-loop
     (λ c. omega arith)
-    (λ c. (omega arith, record { long = refl; kept = c .before .before .pre .1 .1 .0; same = refl }))
+    (λ c. (omega arith, record { long = refl; kept = c .before .before .pre .1 .0; same = refl }))
     (λ c. omega arith)
     (λ c. omega arith)
     (λ c. omega arith)
     (λ c κs. omega arith)
-    (λ c κs. c .before .before .before .before .before .pre .0)
-    (λ c. omega (arith, c .code-in .ensures .small))
+    (λ c κs. search needs)
+    (λ c. search needs)
     (λ c. omega arith)
     (λ c. omega arith)
     (λ c. omega arith)
@@ -73,7 +74,7 @@ fill-spec =
     (λ c. omega arith)
     (λ c. omega arith)
     (λ c. simp length-set (omega arith))
-    (λ c κs. (c .code-in .ensures, (omega (arith, reach c), omega (arith, c .before .entry-at .ensures .1))))
+    (λ c κs. (reach (c .before) .1, (omega (arith, reach (c .before) .0), omega (arith, c .before .entry-at .ensures .1))))
     (λ c. omega arith)
     (λ c. omega arith)
     loop-again

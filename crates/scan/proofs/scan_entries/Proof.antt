@@ -6,7 +6,6 @@ use native.Mathlib.Omega.{arith}
 use borrow.Author.Needs.{needs}
 use Rattle.group.specs.Sizes.{entryOffset}
 use Rattle.group.specs.Entries.{entriesBelow}
-use Rattle.group.specs.Flags.{meaningOf}
 use Rattle.entry.specs.declared.Cursor.{Cursor}
 use Rattle.entry.specs.declared.ScanEnd.{ScanEnd}
 use Rattle.entry.specs.declared.ScanEnd.the-variants.{Reached}
@@ -25,10 +24,10 @@ record Held (group : List ℕ) (size entries : ℕ) (first here : Cursor) (left 
   same : scanLeft size entries group left here ≡ scan size (entryOffset size entries) (entriesBelow group (size - 32) entries) 1 first
 
 abbrev Inv-loop : tie.InvT-loop
-Inv-loop flags group size entries limit left₀ here₀ left here = Held group size entries here₀ here left
+Inv-loop group size entries limit left₀ here₀ left here = Held group size entries here₀ here left
 
 abbrev μ-loop : tie.MeasureT-loop
-μ-loop flags group size entries limit left₀ here₀ left here = left
+μ-loop group size entries limit left₀ here₀ left here = left
 
 -- After a stretch the scan gives what it gave before it.
 passed : (c : tie.After-pass Inv-loop μ-loop)
@@ -39,12 +38,14 @@ passed c = c .pass .ensures .1 .1 ∙ c .before .loop .inv .same
 -- The scan from an entry on, by the number of its fault.
 from : (c : tie.After-entry-fault Inv-loop μ-loop) (rest : ScanEnd)
     → (let p = c .before .before .before .before .before .before .before in let a = p .before .before .before .args in let h = movedTo (p .before .loop .here) (p .pass .result .sum) (p .pass .result .reached) in
-    rest ≡ onward (c .entry-fault .result) (a .entries + 1 - p .pass .result .left) h (scanLeft (a .size) (a .entries) (a .group .now) (p .pass .result .left - 1) (after h (meaningOf (c .before .before .before .before .entry-at .result .flag)) (c .before .before .before .before .entry-at .result .count))))
+    rest ≡ onward (c .entry-fault .result) (a .entries + 1 - p .pass .result .left) h (scanLeft (a .size) (a .entries) (a .group .now) (p .pass .result .left - 1) (after h (c .before .before .before .meaning-of .result) (c .before .before .before .before .entry-at .result .count))))
     → (let a = c .before .before .before .before .before .before .before .before .before .before .args in rest ≡ scan (a .size) (entryOffset (a .size) (a .entries)) (entriesBelow (a .group .now) (a .size - 32) (a .entries)) 1 (a .opening))
 from c rest e =
     let p = c .before .before .before .before .before .before .before in
     let x = c .before .before .before .before .entry-at in
-    e ∙ sym (left-turn _ _ _ (p .pass .result .left) _ (x .result) (c .entry-fault .result) (p .pass .ensures .0 .0) (omega (arith, p .pass .ensures .0 .1, p .before .loop .inv .most)) (x .ensures .0) (c .entry-fault .ensures))
+    let m = c .before .before .before .meaning-of .ensures in
+    (rw m at e)
+    ∙ sym (left-turn _ _ _ (p .pass .result .left) _ (x .result) (c .entry-fault .result) (p .pass .ensures .0 .0) (omega (arith, p .pass .ensures .0 .1, p .before .loop .inv .most)) (x .ensures .0) (rw m at (c .entry-fault .ensures)))
     ∙ passed p
 
 loop-again : tie.Need-loop-again Inv-loop μ-loop
@@ -77,21 +78,21 @@ scan-entries-spec =
     (λ c. omega arith)
     (λ c. omega arith)
     (λ c. omega arith)
-    (λ c. record { some = omega arith; most = omega arith; bounded = c .before .pre .1 .1; same = all-left _ _ _ _ (omega arith) })
-    (λ c κs. ((c .before .before .pre .1 .0, c .loop .inv .bounded), (c .loop .inv .some, c .loop .inv .most)))
-    (λ c κs. (c .before .before .before .pre .1 .0, c .pass .ensures .1 .0))
+    (λ c. record { some = omega arith; most = omega arith; bounded = c .before .pre .1; same = all-left _ _ _ _ (omega arith) })
+    (λ c κs. ((c .before .before .pre .0, c .loop .inv .bounded), (c .loop .inv .some, c .loop .inv .most)))
+    (λ c κs. (c .before .before .before .pre .0, c .pass .ensures .1 .0))
     (λ c. omega arith)
     (λ c. omega arith)
     (λ c. omega arith)
     (λ c. omega arith)
     (λ c κs. omega arith)
-    (λ c κs. c .before .before .before .before .before .before .pre .0)
     (λ c κs. search needs)
-    (λ c κs. ((c .before .follows .ensures, c .before .before .code-in .ensures), (c .before .before .before .before .before .before .pass .ensures .1 .0, (omega arith, (omega arith, omega (arith, c .before .before .before .entry-at .ensures .1))))))
+    (λ c κs. search needs)
+    (λ c κs. (c .before .follows .ensures, (c .before .before .before .before .before .before .pass .ensures .1 .0, (omega arith, (omega arith, omega (arith, c .before .before .before .entry-at .ensures .1))))))
     (λ c. omega arith)
     (λ c κs.
     let b = c .before .before .before .before .before .before .before .before .pass .ensures .1 .0 in
-    (c .before .before .before .before .code-in .ensures, (b .sum, (omega (arith, b .reached), omega (arith, c .before .before .before .before .before .entry-at .ensures .1)))))
+    (b .sum, (omega (arith, b .reached), omega (arith, c .before .before .before .before .before .entry-at .ensures .1))))
     (λ c. omega arith)
     loop-again
     (λ c. c .before .ends .ensures (c .if1 .taken) ∙ passed (c .before .before))

@@ -8,27 +8,25 @@ use Rattle.reader.proofs.Reader.read.Tie as tie
 
 fill-requires : tie.Need-fill-requires
 fill-requires c κs =
-    let j = c .before .before .before .before in
-    let e = sym (j .judge-in .ensures) ∙ c .before .before .enum-told .given .1 in
+    let e = sym (c .before .before .before .judge .ensures) ∙ c .before .enum-told .given .1 in
     let r = accepted _ _ _ _ _ _ e .ready in
-    (j .before .before .table .ensures, (cut r, (data-within _ _ _ _ _ _ e, r .rows)))
+    (cut r, (data-within _ _ _ _ _ _ e, r .rows))
 
 returns : tie.Need-returns
 unfolding groupRows
 returns c =
     let f = c .before .before in
-    let t = f .before .before .before in
-    record { answer = t .before .before .judge-in .ensures; rows-left = rw (t .enum-told .given .1) (f .fill .ensures) }
+    let t = f .before .before in
+    record { answer = t .before .before .judge .ensures; rows-left = rw (t .enum-told .given .1) (f .fill .ensures) }
 
 pub read-spec : {M : Type 1} → statement M
 read-spec =
     tie.close
     (tie.spec
     (λ c κs. search needs)
-    (λ c κs. c .before .table .ensures)
     (λ c. search needs)
     fill-requires
     (λ c. search needs)
     (λ c. search needs)
     returns
-    (λ c. record { answer = c .before .before .judge-in .ensures; rows-left = rw (c .enum-told2 .given .1) }))
+    (λ c. record { answer = c .before .before .judge .ensures; rows-left = rw (c .enum-told2 .given .1) }))

@@ -8,6 +8,8 @@ use Rattle.numbers.proofs.InBytes.{put-more}
 use Rattle.numbers.specs.Numbers.{inBytes}
 use Rattle.group.specs.Sizes.{entryOffset}
 use Rattle.numbers.specs.Store.{put}
+use Rattle.group.specs.Entries.{entryAt}
+use Rattle.group.specs.Coded.{Meant}
 use Rattle.rows.proofs.Filling.{Filled, filled-turn, filled-reach, filled-done}
 use Rattle.rows.proofs.bytes.fill_bytes.Statement.{statement}
 use Rattle.rows.proofs.bytes.fill_bytes.Tie as tie
@@ -24,11 +26,11 @@ onto : {size entries room top left i : ℕ} → Counts size entries room top lef
 onto n h = omega arith
 
 abbrev Inv-loop : tie.InvT-loop
-Inv-loop flags group size entries rows₀ top₀ left₀ reached₀ i₀ rows top left reached i =
+Inv-loop group size entries rows₀ top₀ left₀ reached₀ i₀ rows top left reached i =
     (Counts size entries (length rows) top left i) × Filled inBytes group rows₀ size entries rows top left reached i
 
 abbrev μ-loop : tie.MeasureT-loop
-μ-loop flags group size entries rows₀ top₀ left₀ reached₀ i₀ rows top left reached i = left
+μ-loop group size entries rows₀ top₀ left₀ reached₀ i₀ rows top left reached i = left
 
 -- A row stored, and what is stored after it.
 twelve : (rows after : List ℕ) (i a b c : ℕ) (more : List ℕ) → after ≡ put rows i (inBytes (a ∷ b ∷ c ∷ [])) → put after (i + 12) (inBytes more) ≡ put rows i (inBytes (a ∷ b ∷ c ∷ more))
@@ -39,7 +41,7 @@ none : inBytes [] ≡ []
 unfolding inBytes
 none = refl
 
-reach : (c : tie.After-put-row-arg Inv-loop μ-loop) → c .before .before .loop .reached ≤ entryOffset (c .before .before .before .before .before .args .size) (c .before .before .before .before .before .args .entries)
+reach : (c : tie.After-put-row-arg Inv-loop μ-loop) → (c .before .before .loop .reached ≤ entryOffset (c .before .before .before .before .before .args .size) (c .before .before .before .before .before .args .entries)) × Meant (entryAt (c .before .before .before .before .before .args .group .now) (c .before .before .loop .top - 4) .flag)
 reach c =
     let l = c .before .before .loop in
     filled-reach _ _ _ _ (l .rows) (l .top) (l .left) (l .reached) (l .i) _ (c .before .loop-test .taken) refl (l .inv .1)
@@ -49,8 +51,8 @@ loop-again c =
     let p = c .before .before .put-row in
     let l = c .before .before .before .before .before .loop in
     let t = c .before .before .before .before .loop-test .taken in (
-      rw (p .kept .1 .1 .1 .1 .0) (onto (l .inv .0) t),
-      filled-turn inBytes 12 _ _ _ _ (l .rows) _ (l .top) (l .left) (l .reached) (l .i) _ _ _ t refl refl (p .ensures .0) (p .kept .1 .1 .1 .1 .0) (λ more. twelve (l .rows) _ (l .i) _ _ _ more (p .ensures .1)) (l .inv .1),
+      rw (p .kept .1 .1 .1 .0) (onto (l .inv .0) t),
+      filled-turn inBytes 12 _ _ _ _ (l .rows) _ (l .top) (l .left) (l .reached) (l .i) _ _ _ t refl refl (p .ensures .0) (p .kept .1 .1 .1 .0) (λ more. twelve (l .rows) _ (l .i) _ _ _ more (p .ensures .1)) (l .inv .1),
     )
 
 pub fill-bytes-spec : {M : Type 1} → statement M
@@ -60,11 +62,11 @@ fill-bytes-spec =
     Inv-loop
     μ-loop
     (λ c. omega arith)
-    (λ c. (omega arith, record { long = refl; kept = c .before .before .pre .1 .1 .0; same = refl }))
+    (λ c. (omega arith, record { long = refl; kept = c .before .before .pre .1 .0; same = refl }))
     (λ c. omega arith)
     (λ c. omega arith)
     (λ c. omega arith)
-    (λ c κs. (c .before .before .before .before .before .pre .0, ((omega arith, omega arith), omega (arith, reach c))))
+    (λ c κs. ((omega arith, omega arith), (omega (arith, reach c .0), reach c .1)))
     (λ c. omega arith)
     (λ c. omega arith)
     loop-again

@@ -4,11 +4,11 @@ use mathlib.Core.Path.{_≡_}
 use mathlib.Core.List.{List, []}
 use Prim.Native.Nat.{ℕ, _/_, _%_, _<_}
 use lib.ListN.{getD}
 use Rattle.group.specs.Flags.{meaningOf}
-use Rattle.group.specs.Coded.{codeOf, flagTable, Below}
-use Rattle.group.proofs.FlagLaws.{code-in-table, code-small}
-use Rattle.group.proofs.flags.code_in.Statement.{statement}
-use Rattle.group.proofs.flags.code_in.Tie as tie
+use Rattle.flag_table.specs.Table.{codeOf, flagTable, Below}
+use Rattle.flag_table.proofs.TableLaws.{code-in-table, code-small}
+use Rattle.flag_table.proofs.code_in.Statement.{statement}
+use Rattle.flag_table.proofs.code_in.Tie as tie
 
 found : (table : List (List ℕ)) (flag : ℕ) → table ≡ flagTable → flag < 256
     → Below 16 (codeOf (meaningOf flag)) (getD (getD table (flag / 16) []) (flag % 16) 0)

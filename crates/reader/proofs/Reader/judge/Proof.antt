@@ -1,4 +1,4 @@
--- `Reader::judge_in` meets its contract: the refusal before the scan, or what the scan gives. Assumes nothing.
+-- `Reader::judge` meets its contract: the refusal before the scan, or what the scan gives. Assumes nothing.
 use borrow.Author.Needs.{needs}
 use mathlib.Core.Path.{_≡_, sym, ap, _∙_}
 use Prim.Native.Nat.{ℕ, _-_}
@@ -11,8 +11,8 @@ use Rattle.reader.specs.declared.ReadAnswer.the-variants as answer
 use Rattle.entry.specs.Scan.{scan}
 use Rattle.reader.specs.Answer.{groupScan, answered, readCall}
 use Rattle.reader.proofs.Accepted.{Ready, ready, cut, begins, read-refused, read-scanned}
-use Rattle.reader.proofs.Reader.judge_in.Statement.{statement}
-use Rattle.reader.proofs.Reader.judge_in.Tie as tie
+use Rattle.reader.proofs.Reader.judge.Statement.{statement}
+use Rattle.reader.proofs.Reader.judge.Tie as tie
 
 -- Nothing is refused before the scan.
 open-to : (c : tie.Else1) → Ready (c .before .before .before .args .self) (length (c .before .before .before .args .group .now)) (c .before .before .before .args .number) (c .before .before .before .args .entries) (c .before .before .before .args .room)
@@ -30,15 +30,15 @@ scanned c end e =
     ∙ sym (c .scan-entries .ensures)
     ∙ e)
 
-pub judge-in-spec : {M : Type 1} → statement M
-judge-in-spec =
+pub judge-spec : {M : Type 1} → statement M
+judge-spec =
     tie.close
     (tie.spec
     (λ c κs. search needs)
     (λ c. read-refused _ _ _ _ _ _ (c .before .refusal .ensures) (c .if1 .taken))
     (λ c κs. search needs)
     (λ c. let r = open-to (c .before) in omega (arith, r .long, r .run .most))
-    (λ c κs. let r = open-to (c .before) in (c .before .before .before .before .pre, (rw (r .long) (cut r), rw (r .long, c .opening .ensures) (begins r))))
+    (λ c κs. let r = open-to (c .before) in (rw (r .long) (cut r), rw (r .long, c .opening .ensures) (begins r)))
     (λ c. search needs)
     (λ c. search needs)
     (λ c κs. let r = open-to (c .before .before .before .before .before) in omega (arith, r .next, r .numbered))

@@ -1,0 +1,2 @@
+-- The table of codes, for the contracts of this crate.
+pub mod Table
