@@ -1,6 +1,7 @@
 // A reader from C: its start and its read.
 ghost use mathlib.Core.Path.{_≡_};
 ghost use mathlib.Core.List.{[], _∷_};
+ghost use Prim.Native.Nat.{_+_};
 ghost use lib.ListN.{length};
 ghost use Rattle.numbers.specs.Numbers.{numberAt};
 ghost use Rattle.answer.specs.Answer.{ifAccepted};
@@ -24,17 +25,18 @@ pub fn start(size: u32, first: u32, state: &mut [u8], answer: &mut [u8]) -> u32
     let start = Reader::start(size, first);
     match start {
         ReaderStart::Started(reader) => {
-            storing::begin_reader(state, reader);
+            storing::begin(state, reader.size, reader.next);
             slices::tell(answer, Told::Accepted(0, 0, 0, 0))
         }
         ReaderStart::Refused(refusal) => slices::tell(answer, Told::RefusedAt(refusal, 0)),
     }
 }
 
-// What a read leaves in the state and the answer, and what it returns. The size stands in the state already.
+// What a read leaves in the state and the answer, and what it returns. The size stands in the state already, and the number before
+// the next.
 fn finish(state: &mut [u8], answer: &mut [u8], done: ReadAnswer) -> u32
     requires { ⌜ (length (now state) ≡ readerLength) × (length (now answer) ≡ answerLength) ⌝ }
-    requires { ⌜ ((reader : Reader) → done ≡ Accepted reader → reader .size ≡ numberAt 4 (now state) 0) ⌝ }
+    requires { ⌜ ((reader : Reader) → done ≡ Accepted reader → (reader .size ≡ numberAt 4 (now state) 0) × (reader .next ≡ numberAt 4 (now state) 4 + 1)) ⌝ }
     ensures { λ _. ⌜ now (state .exit) ≡ ifAccepted (told done) (readerBytes (stateOf done)) (now (state .entry)) ⌝ }
     ensures { λ r. ⌜ Tells (told done) r (now (answer .exit)) ⌝ }
 {

@@ -23,7 +23,7 @@ pub fn start(size: u32, first: u32, state: &mut [u8], answer: &mut [u8]) -> u32
     let start = Writer::start(size, first);
     match start {
         WriterStart::Started(writer) => {
-            storing::begin_writer(state, writer);
+            storing::begin(state, writer.size, writer.next);
             slices::tell(answer, Told::Accepted(0, 0, 0, 0))
         }
         WriterStart::Refused(refusal) => slices::tell(answer, Told::RefusedAt(refusal, 0)),

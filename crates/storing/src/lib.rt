@@ -1,10 +1,11 @@
 // States into lent slices: each number four bytes, most significant first. The leaves here have a `requires` on a slice's length,
 // which the calls above have tested.
 ghost use mathlib.Core.Path.{_≡_};
-ghost use Prim.Native.Nat.{_+_, _≤_};
-ghost use lib.ListN.{length};
+ghost use mathlib.Core.List.{_∷_};
+ghost use Prim.Native.Nat.{ℕ, _+_, _*_, _≤_};
+ghost use lib.ListN.{length, replicate};
 ghost use Rattle.numbers.specs.Store.{put};
-ghost use Rattle.numbers.specs.Numbers.{numberAt, bytesOf};
+ghost use Rattle.numbers.specs.Numbers.{numberAt, bytesOf, inBytes};
 ghost use Rattle.states.specs.States.{readerLength, writerLength, phaseNumber, b4Number, readerBytes, writerBytes};
 use group::Phase;
 use laying::Writer;
@@ -37,27 +38,22 @@ fn keep(slice: &mut [u8], at: usize, n: u32)
     }
 }
 
-// The four numbers that a group changes, in a slice that has the size already.
+// The four numbers that a group changes, in a slice that has the size already. The next number is the one that stands there and
+// one more: of a number that is known to be small the compiler would store each byte by itself, of what it loads here all four at
+// once.
 pub fn put_next(slice: &mut [u8], r: Reader)
     requires { ⌜ (length (now slice) ≡ readerLength) × (r .size ≡ numberAt 4 (now slice) 0) ⌝ }
+    requires { ⌜ r .next ≡ numberAt 4 (now slice) 4 + 1 ⌝ }
     ensures { λ _. ⌜ now (slice .exit) ≡ readerBytes r ⌝ }
 {
     let phase = r.phase;
     let phase = phase_number(phase);
     let b4 = b4_number(r.warned);
-    keep(slice, 4, r.next);
+    let next = numbers::number_at(slice, 4) + 1;
+    numbers::put_number(slice, 4, next);
     keep(slice, 8, phase);
     keep(slice, 12, r.sum);
     keep(slice, 16, b4);
-}
-
-// The state's five numbers, over all that stood in the slice.
-fn put_reader(slice: &mut [u8], r: Reader)
-    requires { ⌜ length (now slice) ≡ readerLength ⌝ }
-    ensures { λ _. ⌜ now (slice .exit) ≡ readerBytes r ⌝ }
-{
-    keep(slice, 0, r.size);
-    put_next(slice, r);
 }
 
 // The state's eight numbers, over all that stood in the slice.
@@ -78,21 +74,12 @@ pub fn put_writer(slice: &mut [u8], w: Writer)
     keep(slice, 28, w.rest);
 }
 
-// A fresh reader's state. Its bytes are zeros first: what `keep` looks at was then stored here, and nothing that the slice held
-// is looked at.
-pub fn begin_reader(slice: &mut [u8], r: Reader)
-    requires { ⌜ length (now slice) ≡ readerLength ⌝ }
-    ensures { λ _. ⌜ now (slice .exit) ≡ readerBytes r ⌝ }
+// A fresh state, a reader's or a writer's: its size, its next number, and zeros. What the slice held is not looked at.
+pub fn begin(slice: &mut [u8], size: u32, first: u32)
+    requires { ⌜ 8 ≤ length (now slice) ⌝ }
+    ensures { λ _. ⌜ ((n : ℕ) → length (now (slice .entry)) ≡ 8 + 4 * n → now (slice .exit) ≡ inBytes (size ∷ first ∷ replicate n 0)) ⌝ }
 {
-    numbers::bytes::put_zeros(slice, 0, states::READER_LENGTH);
-    put_reader(slice, r);
-}
-
-// A fresh writer's, in the same way.
-pub fn begin_writer(slice: &mut [u8], w: Writer)
-    requires { ⌜ length (now slice) ≡ writerLength ⌝ }
-    ensures { λ _. ⌜ now (slice .exit) ≡ writerBytes w ⌝ }
-{
-    numbers::bytes::put_zeros(slice, 0, states::WRITER_LENGTH);
-    put_writer(slice, w);
+    numbers::bytes::put_zeros(slice, 0, slice.len());
+    numbers::put_number(slice, 0, size);
+    numbers::put_number(slice, 4, first);
 }

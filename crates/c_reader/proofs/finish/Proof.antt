@@ -20,7 +20,10 @@ finish-spec =
     tie.close
     (tie.spec
     (λ c. search needs)
-    (λ c κs. let p = c .before .before .before .before .before .before .pre in (search needs, p .1 _ (c .before .before .done .given .1)))
+    (λ c κs.
+    let p = c .before .before .before .before .before .before .pre in
+    let stands = p .1 _ (c .before .before .done .given .1) in
+    ((search needs, stands .0), stands .1))
     (λ c κs. search needs)
     (λ c. search needs)
     (λ c κs. search needs)

@@ -2,6 +2,7 @@
 use borrow.Author.Needs.{needs}
 use mathlib.Core.Path.{_≡_, sym, ap, _∙_}
 use mathlib.Core.Bool.{true}
+use Prim.Native.Nat.{_+_}
 use lib.ListN.{length}
 use native.Mathlib.Omega.{arith}
 use Rattle.numbers.proofs.Tests.{fails, holds}
@@ -40,14 +41,18 @@ answers c =
     let m = o .before .before in
     read-done _ _ _ _ _ _ (kept (m .before .before .before)) _ _ (holds (m .before .reader-meant .ensures) (m .if2 .left)) (o .reader-of .ensures) (r .read-bytes .ensures) (f .finish .ensures .0) (f .finish .ensures .1)
 
--- An accepted reader has the size that the state has.
+-- An accepted reader has the size that the state has, and the number after the one that it has.
 finish-requires : tie.Need-finish-requires
 unfolding readerOf
 finish-requires c κs =
     let r = c .before .before .before .before in
     let s = r .before .before .reader-of in (
       long (r .before .before .before .before .before .before .before),
-      λ reader e. ap (λ (t : Reader). t .size) (accepted (s .result) reader _ _ _ _ (sym (r .read-bytes .ensures .answer) ∙ e) .left) ∙ ap (λ (t : Reader). t .size) (s .ensures),
+      λ reader e.
+          let left = accepted (s .result) reader _ _ _ _ (sym (r .read-bytes .ensures .answer) ∙ e) .left in (
+            ap (λ (t : Reader). t .size) left ∙ ap (λ (t : Reader). t .size) (s .ensures),
+            ap (λ (t : Reader). t .next) left ∙ ap (λ (t : Reader). t .next + 1) (s .ensures),
+          ),
     )
 
 pub read-spec : {M : Type 1} → statement M
