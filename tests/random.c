@@ -1,5 +1,6 @@
 /* Single calls at random, compared with the model: states sound, nearly sound and garbage; groups random, lawful and
-   lawful but for a few bytes; lengths and arguments right and wrong. COUNT is how many of each kind: random [COUNT]. */
+   lawful but for a few bytes; lengths and arguments right and wrong. COUNT is how many of each kind: random [COUNT].
+   Before them every flag at an entry, at each place of a scan. */
 
 #include "groups.h"
 #include "pair.h"
@@ -156,6 +157,34 @@ static void reads_some(desk *d, long count)
     }
 }
 
+/* every flag at an entry: at each place of a scan, by a state with b4 clear and set, with counts that suit a kind and counts
+   that do not; as the last entry, before a skip as if its count were data, and before one as if it were not */
+static void every_flag(desk *d)
+{
+    static const struct { uint32_t phase, before; } places[] = { { 0, 0 }, { 1, 0 }, { 2, 0 }, { 0, 0x07000000 },
+        { 2, 0x01000009 }, { 0, 0x63000001 }, { 0, 0x42000001 }, { 1, 0x40000001 }, { 1, 0x60000001 } };
+    static const uint32_t counts[] = { 0, 1, 2, 9, 10, 63, 64 };
+    uint32_t place, b4, flag, count, behind;
+    resize(&d->of[STATE], DDS_READER_LEN);
+    resize(&d->of[GROUP], 64);
+    resize(&d->of[ANSWER], DDS_ANSWER_LEN);
+    for (place = 0; place < sizeof places / sizeof *places; place++)
+        for (b4 = 0; b4 < 2; b4++)
+            for (flag = 0; flag < 256; flag++)
+                for (count = 0; count < sizeof counts / sizeof *counts; count++)
+                    for (behind = 0; behind < 3; behind++) {
+                        uint32_t n = 0, data = places[place].before >> 30 & 1;
+                        put_reader(d->of[STATE].at, 64, 7, places[place].phase, places[place].phase ? 9 : 0, b4);
+                        memset(d->of[GROUP].at, LENT, 64);
+                        if (places[place].before) put(entry(&d->of[GROUP], ++n), places[place].before | b4 << 27);
+                        put(entry(&d->of[GROUP], ++n), flag << 24 | counts[count]);
+                        if (behind == 1) data += counts[count];
+                        if (behind) put(entry(&d->of[GROUP], ++n), 0x88000000 | ((64 - data) & 0xFFFFFF));
+                        resize(&d->of[ROWS], 12 * (size_t)n);
+                        both(d, READ, 7, n, 0);
+                    }
+}
+
 /* how much data to offer: the rest, about as much as the room, or any */
 static uint32_t some_data(const desk *d, uint32_t size)
 {
@@ -233,6 +262,7 @@ int main(int argc, char **argv)
 {
     long count = count_of(argc, argv, 4000000);
     desk d = lent_for(4 * LARGEST);
+    every_flag(&d);
     reads_some(&d, count);
     writes_some(&d, count);
     starts_some(&d, count / 4);
