@@ -30,21 +30,22 @@ fn put_row(group: &[u8], at: usize, reached: u32, rows: &mut [u8], i: usize) -> 
     rules::reached_by(flag, reached, count)
 }
 
-// The same numbers as bytes, twelve an entry.
+// The same numbers as bytes, twelve an entry. Where an entry stands is counted in a machine word, which is an instruction less for
+// each.
 pub fn fill_bytes(group: &[u8], size: u32, entries: u32, rows: &mut [u8])
     requires { ⌜ Cut (now group) size entries ⌝ }
     requires { ⌜ Within (entryOffset size entries) 0 (entriesBelow (now group) (size - informationLength) entries) ⌝ }
     requires { ⌜ 12 * entries ≤ length (now rows) ⌝ }
     ensures { λ _. ⌜ now (rows .exit) ≡ put (now (rows .entry)) 0 (inBytes (rowsFrom 0 (entriesBelow (now (group .entry)) (size - informationLength) entries))) ⌝ }
 {
-    let mut top = size - Group::INFORMATION_LENGTH;
+    let mut top = (size - Group::INFORMATION_LENGTH) as usize;
     let mut left = entries;
     let mut reached: u32 = 0;
     let mut i: usize = 0;
     while 0 < left {
-        top = top - Group::ENTRY_LENGTH;
+        top = top - (Group::ENTRY_LENGTH as usize);
         left = left - 1;
-        reached = put_row(group, top as usize, reached, rows, i);
+        reached = put_row(group, top, reached, rows, i);
         i = i + 12;
     }
 }

@@ -20,14 +20,14 @@ pub fn fill(group: &[u8], size: u32, entries: u32, rows: &mut [u32])
     requires { ⌜ 3 * entries ≤ length (now rows) ⌝ }
     ensures { λ _. ⌜ now (rows .exit) ≡ put (now (rows .entry)) 0 (rowsFrom 0 (entriesBelow (now (group .entry)) (size - informationLength) entries)) ⌝ }
 {
-    let mut top = size - Group::INFORMATION_LENGTH;
+    let mut top = (size - Group::INFORMATION_LENGTH) as usize;
     let mut left = entries;
     let mut reached: u32 = 0;
     let mut i: usize = 0;
     while 0 < left {
-        top = top - Group::ENTRY_LENGTH;
+        top = top - (Group::ENTRY_LENGTH as usize);
         left = left - 1;
-        let entry = group::entries::entry_at(group, top as usize);
+        let entry = group::entries::entry_at(group, top);
         let flag = entry.flag;
         let count = entry.count;
         rows[i] = group::flags::number_by_bits(flag) as u32;

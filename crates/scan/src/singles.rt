@@ -1,5 +1,5 @@
 // Separators and entire records between records, which all but a few entries of a group are, and the skip that ends it.
-// Where such an entry keeps its rules, its four bytes as one number tell so, without the tables; any other is left to them.
+// Where such an entry keeps its rules, its four bytes as one number tell so at once; any other is left to the rules.
 ghost use mathlib.Core.Path.{_≡_};
 ghost use mathlib.Core.Bool.{true};
 ghost use Prim.Native.Nat.{_*_, _≤_};

@@ -24,16 +24,17 @@ pub const READER_LENGTH: usize = 20;
 
 pub const WRITER_LENGTH: usize = 32;
 
+// Asked from the greatest down, which the compiler makes less of.
 fn phase_of(n: u32) -> Phase
     ensures { λ r. ⌜ r ≡ phaseOf n ⌝ }
 {
-    if n == 0 {
-        return Phase::Free;
+    if n > 1 {
+        return Phase::Owed;
     }
     if n == 1 {
         return Phase::Inside;
     }
-    Phase::Owed
+    Phase::Free
 }
 
 // Whether the phase of a state's slice is a number that has a meaning.
