@@ -59,7 +59,8 @@ pub fn flag_of(kind: Kind, warned: bool) -> u8
     if warned { with_b4(flag) } else { flag }
 }
 
-// The number of the kind that has a flag, if one has it: b8 to b5 leave two kinds, and b2 tells which of the two it is.
+// The number of the kind that has a flag, if one has it. b8 to b5 leave two: 0 total and separator, 4 middle and start, 6 last and
+// entire, and 8 the skip alone. b2 is set in the second of the two.
 pub fn number_by_bits(flag: u8) -> u8
     ensures { λ r. ⌜ ((m : Meant flag) → r ≡ kindNumber (m .kind)) ⌝ }
 {
