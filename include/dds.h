@@ -30,13 +30,13 @@ extern "C" {
 
 /* ---- Version
 
-   How many change requests have landed, then the last of them, as one decimal number: 5, and 2026-03. Each landing makes it
+   How many change requests have landed, then the last of them, as one decimal number: 6, and 2026-04. Each landing makes it
    greater, so it compares, also where a request of a lower number lands later. Header and archive of one build belong together.
 
    States are not kept across versions: in another a state may have other fields or another length. A run is ended before the
    change, or started anew after it. */
 
-#define DDS_VERSION 5202603u
+#define DDS_VERSION 6202604u
 
 /* ---- Sizes */
 

@@ -188,8 +188,8 @@ fn b4_kept(before: bool, warned: bool) -> bool
     if before { warned } else { true }
 }
 
-// 9, 10, 19 to 22, 12 and 13 of an entry whose flag means this, in this order: the number of the first rule that is broken, 0 if
-// none is. `limit` is L − 32 − 4n.
+// 9, 10, 19 to 22, 12 and 13 of an entry whose flag has this meaning, in this order: the number of the first rule that is broken, 0
+// if none is. `limit` is L − 32 − 4n.
 fn known_fault(
     follows: &[[bool; 8]; 5],
     size: u32,
@@ -218,7 +218,7 @@ fn known_fault(
     data_fault(size, limit, here.reached, kind, count)
 }
 
-// All rules of one entry: 8 where its flag has no meaning, and then these.
+// All rules of one entry: 8 where its flag has no meaning, and then those above.
 pub fn entry_fault(
     follows: &[[bool; 8]; 5],
     size: u32,
