@@ -12,7 +12,7 @@ use Rattle.group.specs.declared.Meaning.{Meaning}
 use Rattle.group.specs.declared.Meaning.the-variants.{Known, Unknown}
 use Rattle.group.specs.Sizes.{longestRecord}
 use Rattle.group.specs.Flags.{meaningOf}
-use Rattle.group.specs.Coded.{Meant}
+use Rattle.group.specs.Contracts.{Meant}
 use Rattle.group.proofs.FlagLaws.{meant-or}
 use Rattle.numbers.proofs.Tests.{passed}
 use Rattle.entry.specs.declared.Cursor.{Cursor}

@@ -13,7 +13,7 @@ use Rattle.group.specs.declared.Kind.{Kind}
 use Rattle.group.specs.declared.Meaning.{Meaning}
 use Rattle.group.specs.declared.Meaning.the-variants.{Known, Unknown}
 use Rattle.group.specs.Flags.{flagOf, meaningOf}
-use Rattle.group.specs.Coded.{Meant}
+use Rattle.group.specs.Contracts.{Meant}
 use Rattle.group.proofs.FlagLaws.{each, flag-of-meaning}
 use Rattle.entry.specs.declared.Cursor.{Cursor}
 use Rattle.entry.specs.declared.ScanEnd.{ScanEnd}

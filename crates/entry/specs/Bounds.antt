@@ -10,7 +10,7 @@ use lib.ListN.{length}
 use Rattle.group.specs.declared.Entry.{Entry}
 use Rattle.group.specs.Sizes.{standardSize, informationLength, entryLength, longestRecord}
 use Rattle.group.specs.Flags.{kinds, meaningOf}
-use Rattle.group.specs.Coded.{Meant}
+use Rattle.group.specs.Contracts.{Meant}
 use Rattle.entry.specs.declared.Stand.{Stand}
 use Rattle.entry.specs.declared.Stand.the-variants.{Free, AfterPart, Inside, AfterLast, Owed}
 use Rattle.entry.specs.declared.Cursor.{Cursor}

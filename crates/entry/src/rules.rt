@@ -4,7 +4,7 @@ ghost use Prim.Native.Nat.{_≤_};
 ghost use Rattle.group.specs.Sizes.{standardSize, longestRecord};
 ghost use Rattle.group.specs.declared.Meaning.the-variants.{Known};
 ghost use Rattle.group.specs.Flags.{meaningOf};
-ghost use Rattle.group.specs.Coded.{Meant};
+ghost use Rattle.group.specs.Contracts.{Meant};
 ghost use Rattle.entry.specs.Rules.{mayFollow, isSkip, holdsData, standAfter, sumAfter, reachedAfter, b4Kept, countFault, followKept, dataFault, entryFault};
 ghost use Rattle.entry.specs.Scan.{after, reachedBy};
 ghost use Rattle.entry.specs.Bounds.{standNumber, followTable, Bounded, partFault};

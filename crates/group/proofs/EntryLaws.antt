@@ -13,7 +13,7 @@ use Rattle.numbers.specs.Store.{put}
 use Rattle.numbers.specs.Numbers.{numberAt, bytesOf, Bytes}
 use Rattle.group.specs.Sizes.{longestRecord}
 use Rattle.group.specs.Entries.{entry, entryAt, entryBytes, entriesBelow, tableBytes}
-use Rattle.group.specs.Coded.{Word}
+use Rattle.group.specs.Contracts.{Word}
 use Rattle.numbers.proofs.Stores.{put-split}
 use Rattle.numbers.proofs.NumberLaws.{length-bytes, count-at, three-bytes, four-bytes, number-after, number-from, number-of-bytes, bytes-of-number, number-small}
 

@@ -15,7 +15,7 @@ use Rattle.group.specs.declared.Kind.the-variants.{Total, Separator, Mid
 use Rattle.group.specs.declared.Meaning.{Meaning}
 use Rattle.group.specs.declared.Meaning.the-variants.{Known, Unknown}
 use Rattle.group.specs.Flags.{kinds, kindNumber, flagOf, meaningAmong, meaningOf, b4Of, withB4}
-use Rattle.group.specs.Coded.{Meant}
+use Rattle.group.specs.Contracts.{Meant}
 use Rattle.numbers.proofs.Computed.{below}
 
 -- What holds of each kind with b4 clear and with b4 set, so that a law of the fourteen flags is one computation.

@@ -1,7 +1,7 @@
 -- What a reader of this crate must believe, in document 01's order, and the one file that serves only contracts and proofs
--- (Coded).
+-- (Contracts).
 pub mod Sizes
 pub mod Entries
 pub mod Flags
 pub mod State
-pub mod Coded
+pub mod Contracts

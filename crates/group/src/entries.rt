@@ -5,7 +5,7 @@ ghost use lib.ListN.{length};
 ghost use Rattle.numbers.specs.Store.{put};
 ghost use Rattle.numbers.specs.Numbers.{bytesOf};
 ghost use Rattle.group.specs.Entries.{entry, entryAt, entryBytes};
-ghost use Rattle.group.specs.Coded.{Word};
+ghost use Rattle.group.specs.Contracts.{Word};
 use crate::Entry;
 
 // The entry that stands at `at`, as one number: its flag above the three bytes of its count.

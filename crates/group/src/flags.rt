@@ -3,7 +3,7 @@ ghost use mathlib.Core.Path.{_≡_};
 ghost use mathlib.Core.Bool.{false};
 ghost use Rattle.group.specs.declared.Kind.{Kind};
 ghost use Rattle.group.specs.Flags.{kindNumber, flagOf, meaningOf, b4Of, withB4};
-ghost use Rattle.group.specs.Coded.{Meant};
+ghost use Rattle.group.specs.Contracts.{Meant};
 use crate::Kind;
 use crate::Meaning;
 

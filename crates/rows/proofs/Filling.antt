@@ -12,7 +12,7 @@ use Rattle.group.specs.declared.Entry.{Entry}
 use Rattle.group.specs.Sizes.{entryOffset}
 use Rattle.group.specs.Entries.{entryAt, entriesBelow}
 use Rattle.group.specs.Flags.{kindNumber, meaningOf}
-use Rattle.group.specs.Coded.{Meant}
+use Rattle.group.specs.Contracts.{Meant}
 use Rattle.entry.specs.Scan.{reachedBy}
 use Rattle.entry.specs.Bounds.{Within}
 use Rattle.rows.specs.Rows.{rowKind, rowsFrom}

@@ -8,7 +8,7 @@ ghost use Rattle.group.specs.Sizes.{informationLength, longestRecord, entryOffs
 ghost use Rattle.numbers.specs.Store.{put};
 ghost use Rattle.group.specs.Entries.{entryAt, entriesBelow};
 ghost use Rattle.group.specs.Flags.{meaningOf};
-ghost use Rattle.group.specs.Coded.{Meant};
+ghost use Rattle.group.specs.Contracts.{Meant};
 ghost use Rattle.entry.specs.Scan.{reachedBy};
 ghost use Rattle.entry.specs.Bounds.{Cut, Within};
 ghost use Rattle.rows.specs.Rows.{rowKind, rowsFrom};

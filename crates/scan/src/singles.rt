@@ -6,7 +6,7 @@ ghost use Prim.Native.Nat.{_*_, _≤_};
 ghost use Rattle.group.specs.declared.Entry.{Entry};
 ghost use Rattle.group.specs.Sizes.{standardSize, entryOffset};
 ghost use Rattle.group.specs.Flags.{flagOf};
-ghost use Rattle.group.specs.Coded.{Word};
+ghost use Rattle.group.specs.Contracts.{Word};
 ghost use Rattle.entry.specs.declared.ScanEnd.the-variants.{Reached};
 ghost use Rattle.entry.specs.Rules.{mayFollow};
 ghost use Rattle.entry.specs.Bounds.{Cut, Bounded};

@@ -7,7 +7,7 @@ use borrow.Author.Needs.{needs}
 use lib.ListN.{length, set, length-set}
 use Rattle.group.specs.Sizes.{entryOffset}
 use Rattle.numbers.specs.Store.{put}
-use Rattle.group.specs.Coded.{Meant}
+use Rattle.group.specs.Contracts.{Meant}
 use Rattle.numbers.proofs.Stores.{put-three, put-put}
 use Rattle.rows.proofs.Filling.{row-kind, Filled, filled-turn, filled-reach, filled-done}
 use Rattle.rows.proofs.fill.Statement.{statement}

@@ -9,7 +9,7 @@ use Rattle.numbers.specs.Numbers.{inBytes}
 use Rattle.group.specs.Sizes.{entryOffset}
 use Rattle.numbers.specs.Store.{put}
 use Rattle.group.specs.Entries.{entryAt}
-use Rattle.group.specs.Coded.{Meant}
+use Rattle.group.specs.Contracts.{Meant}
 use Rattle.rows.proofs.Filling.{Filled, filled-turn, filled-reach, filled-done}
 use Rattle.rows.proofs.bytes.fill_bytes.Statement.{statement}
 use Rattle.rows.proofs.bytes.fill_bytes.Tie as tie

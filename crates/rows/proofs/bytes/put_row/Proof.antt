@@ -10,7 +10,7 @@ use Rattle.numbers.specs.Numbers.{inBytes}
 use Rattle.numbers.specs.Store.{put}
 use Rattle.group.specs.Entries.{entryAt}
 use Rattle.group.specs.Flags.{meaningOf}
-use Rattle.group.specs.Coded.{Meant}
+use Rattle.group.specs.Contracts.{Meant}
 use Rattle.entry.specs.Scan.{reachedBy}
 use Rattle.rows.specs.Rows.{rowKind}
 use Rattle.rows.proofs.Filling.{row-kind}
