@@ -5,8 +5,9 @@ use Prim.Native.Nat.{ℕ, _/_}
 use mathlib.Core.List.{List, [], _∷_}
 use lib.ListN.{length}
 use Rattle.numbers.specs.Numbers.{inBytes}
-use Rattle.numbers.specs.Store.{put}
-use Rattle.reader.specs.Answer.{fresh, readerStartCall, startTold, readCall, told, stateOf, groupRows}
+use Rattle.reader.specs.declared.ReadAnswer.{ReadAnswer}
+use Rattle.reader.specs.declared.ReadAnswer.the-variants as read
+use Rattle.reader.specs.Answer.{fresh, readerStartCall, startTold, readCall, told, groupRows, rowsLeft}
 use Rattle.slices.specs.Call.{Left, slice, lengthsKept, ofMeaning, called}
 use Rattle.states.specs.States.{readerLength, readerOf, readerBytes, readerMeant}
 
@@ -17,6 +18,13 @@ ddsReaderStart size first state answer =
     called (lengthsKept (length state) readerLength (length answer)) (startTold (readerStartCall size first))
     (readerBytes (fresh size first) ∷ []) (state ∷ []) answer
 
+-- What a read leaves in the state slice: the new state's bytes, and what stood there where it answers a repeat, for which "state and
+-- rows stay", or is refused.
+abbrev pub stateLeft : ReadAnswer → (old : List ℕ) → List ℕ
+stateLeft (read.Accepted t) old = readerBytes t
+stateLeft (read.Repeated s) old = old
+stateLeft (read.Refused s refusal place) old = old
+
 -- "One call reads one group." "A row slice under 12n bytes is 7": it has room for a fourth as many numbers as it has bytes. "Rows
 -- after the n-th are untouched."
 unfoldable pub ddsRead : (state group : List ℕ) (number n : ℕ) (rows answer : List ℕ) → Left
@@ -24,7 +32,7 @@ ddsRead state group number n rows answer =
     let s = readerOf state in
     let a = readCall s group number n (length rows / 4) in
     called (lengthsKept (length state) readerLength (length answer)) (ofMeaning (readerMeant state) (told a))
-    (readerBytes (stateOf a) ∷ put rows 0 (inBytes (groupRows s group n)) ∷ []) (state ∷ rows ∷ []) answer
+    (stateLeft a state ∷ rowsLeft a (inBytes (groupRows s group n)) rows ∷ []) (state ∷ rows ∷ []) answer
 
 -- What a start or a read leaves in the state slice, and a read in the rows.
 abbrev pub readerLeft : Left → List ℕ

@@ -1,15 +1,13 @@
 // A reader from C: its start and its read.
 ghost use mathlib.Core.Path.{_≡_};
 ghost use mathlib.Core.List.{[], _∷_};
-ghost use Prim.Native.Nat.{_+_};
 ghost use lib.ListN.{length};
-ghost use Rattle.numbers.specs.Numbers.{numberAt};
-ghost use Rattle.answer.specs.Answer.{ifAccepted};
 ghost use Rattle.reader.specs.declared.ReadAnswer.the-variants.{Accepted};
-ghost use Rattle.reader.specs.Answer.{told, stateOf};
+ghost use Rattle.reader.specs.Answer.{told};
 ghost use Rattle.slices.specs.Call.{left, answerLength, Tells};
-ghost use Rattle.states.specs.States.{readerLength, readerBytes};
-ghost use Rattle.c_reader.specs.Calls.{ddsReaderStart, ddsRead};
+ghost use Rattle.states.specs.States.{readerLength};
+ghost use Rattle.c_reader.specs.Calls.{ddsReaderStart, stateLeft, ddsRead};
+ghost use Rattle.storing.specs.Contracts.{Follows};
 use answer::Told;
 use reader::ReadAnswer;
 use reader::Reader;
@@ -32,12 +30,12 @@ pub fn start(size: u32, first: u32, state: &mut [u8], answer: &mut [u8]) -> u32
     }
 }
 
-// What a read leaves in the state and the answer, and what it returns. The size stands in the state already, and the number before
-// the next.
+// What a read leaves in the state and the answer, and what it returns. A new state's size stands in the slice already, and the
+// number before its next.
 fn finish(state: &mut [u8], answer: &mut [u8], done: ReadAnswer) -> u32
     requires { ⌜ (length (now state) ≡ readerLength) × (length (now answer) ≡ answerLength) ⌝ }
-    requires { ⌜ ((reader : Reader) → done ≡ Accepted reader → (reader .size ≡ numberAt 4 (now state) 0) × (reader .next ≡ numberAt 4 (now state) 4 + 1)) ⌝ }
-    ensures { λ _. ⌜ now (state .exit) ≡ ifAccepted (told done) (readerBytes (stateOf done)) (now (state .entry)) ⌝ }
+    requires { ⌜ ((reader : Reader) → done ≡ Accepted reader → Follows (now state) reader) ⌝ }
+    ensures { λ _. ⌜ now (state .exit) ≡ stateLeft done (now (state .entry)) ⌝ }
     ensures { λ r. ⌜ Tells (told done) r (now (answer .exit)) ⌝ }
 {
     match done {
@@ -45,6 +43,7 @@ fn finish(state: &mut [u8], answer: &mut [u8], done: ReadAnswer) -> u32
             storing::put_next(state, reader);
             slices::tell(answer, Told::Accepted(0, 0, 0, 0))
         }
+        ReadAnswer::Repeated(_) => slices::tell(answer, Told::Accepted(2, 0, 0, 0)),
         ReadAnswer::Refused {
             state: _,
             refusal,

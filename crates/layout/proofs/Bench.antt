@@ -12,7 +12,7 @@ use Rattle.group.specs.State.{runSound, startRefusal}
 use Rattle.entry.specs.Rules.{mayFollow, entryFault}
 use Rattle.entry.specs.Scan.{scan}
 use Rattle.rows.specs.Rows.{rowsFrom}
-use Rattle.reader.specs.Answer.{readerStartCall, readRefusal, groupScan, readCall, groupRows}
+use Rattle.reader.specs.Answer.{readerStartCall, isRepeat, readRefusal, groupScan, readCall, groupRows}
 use Rattle.sound.specs.State.{roomKept, emptyKept, restKept, dataKept, spentKept, writerSound, recordRefusal, separatorRefusal, endRefusal}
 use Rattle.laying.specs.Room.{room, fitOf}
 use Rattle.laying.specs.Laying.{layEntry, layData, layPart, moved, laySkip, zeroGap, shut, warnState, payOwed, ready}
@@ -21,7 +21,7 @@ use Rattle.layout.specs.BenchTable.{Case, shown, shownFrom, answerTo, re
 
 -- All that must open for a case to be computed.
 unfoldable pub opens : Unit {0}
-unfolding put numberAt bytesOf entryAt entryBytes entriesBelow meaningOf runSound startRefusal mayFollow entryFault scan rowsFrom readerStartCall readRefusal groupScan readCall groupRows roomKept emptyKept restKept dataKept spentKept writerSound recordRefusal separatorRefusal endRefusal room fitOf layEntry layData layPart moved laySkip zeroGap shut warnState payOwed ready finished closed orRefused writerStartCall byFit recordFree middle last recordInside recordAccepted recordCall separatorAccepted separatorCall endAccepted endCall call
+unfolding put numberAt bytesOf entryAt entryBytes entriesBelow meaningOf runSound startRefusal mayFollow entryFault scan rowsFrom readerStartCall isRepeat readRefusal groupScan readCall groupRows roomKept emptyKept restKept dataKept spentKept writerSound recordRefusal separatorRefusal endRefusal room fitOf layEntry layData layPart moved laySkip zeroGap shut warnState payOwed ready finished closed orRefused writerStartCall byFit recordFree middle last recordInside recordAccepted recordCall separatorAccepted separatorCall endAccepted endCall call
 opens = tt
 
 -- Each case comes to what is expected of it.

@@ -2,10 +2,12 @@
 -- Assumes nothing.
 use Prim.Native.Nat.{ℕ}
 use native.Mathlib.Omega.{arith}
-use mathlib.Core.List.{List}
-use mathlib.Core.Bool.{Bool}
+use mathlib.Core.List.{List, _∷_}
+use mathlib.Core.Bool.{Bool, true}
 use mathlib.Core.Path.{_≡_, refl, sym, ap, _∙_}
+use lib.Dec.{leb}
 use lib.ListN.{length}
+use borrow.Author.Tests.{le-leb}
 use Rattle.group.specs.declared.Phase.{Phase}
 use Rattle.group.specs.declared.Phase.the-variants as phase
 use Rattle.group.specs.Sizes.{entryOffset}
@@ -51,6 +53,18 @@ b4-after {size} z (accepts-more {s} {t} {g} {gs} old e a) =
     ∙ ap (λ (b : Bool). b4Left size b gs) (left-by-skip s t (g .bytes) (g .number) (g .entries) (length old) e)
     ∙ ap (λ (n : ℕ). b4Left size (b4Of (entryAt (g .bytes) (entryOffset n (g .entries)) .flag)) gs) z
 
+-- .. and says that a group was accepted.
+says-on : {s t : Reader} {run : List Image} {rows : List (List ℕ)} → s .accepted ≡ true → Accepts s run rows t → t .accepted ≡ true
+says-on h accepts-none = h
+says-on h (accepts-more {s} {t} {g} old e a) =
+    says-on (ap (λ (r : Reader). r .accepted) ((accepted s t (g .bytes) (g .number) (g .entries) (length old) e) .left)) a
+
+says-after : {size first : ℕ} {final : Reader} {run : List Image} {rows : List (List ℕ)} → Accepts (fresh size first) run rows final → final .accepted ≡ leb 1 (length run)
+says-after accepts-none = refl
+says-after (accepts-more {s} {t} {g} {gs} old e a) =
+    says-on (ap (λ (r : Reader). r .accepted) ((accepted s t (g .bytes) (g .number) (g .entries) (length old) e) .left)) a
+    ∙ sym (le-leb 1 (length (g ∷ gs)) (omega arith))
+
 pub ends-with : {size first : ℕ} {i : List Item} {b : List ℕ} {run : List Image} {rows : List (List ℕ)} {final : Reader} →
     Lays size first i b run → Accepts (fresh size first) run rows final → EndsWith size first run rows b final
 ends-with {run} {final} l a =
@@ -64,4 +78,5 @@ ends-with {run} {final} l a =
       free = rw (l .breaks) at (tail-free (final .phase) (l .tail) (l .soundTail) stand);
       sum = ap (λ (r : Reader). r .sum) (sym same) ∙ c .sum ∙ tail-sum (l .tail) ∙ ap length (l .breaks);
       b4 = b4-after refl a;
+      accepted = says-after a;
     }

@@ -8,9 +8,11 @@ pub mod OnlyOne
 pub mod Unscanned
 pub mod Sound
 pub mod Order
+pub mod Repeats
 pub mod Ending
 pub mod AddUp
 pub mod EarlyWarning
+pub mod Once
 pub mod Buffer
 pub mod Held
 pub mod Accounts

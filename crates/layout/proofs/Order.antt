@@ -4,6 +4,7 @@ use Prim.Native.Nat.{ℕ, zero, suc, _+_, _<_}
 use native.Mathlib.Omega.{arith}
 use native.Mathlib.Nat.{add-zero}
 use mathlib.Core.List.{List, [], _∷_, _++_, map}
+use mathlib.Core.Bool.{false}
 use mathlib.Core.Path.{_≡_, refl, sym, ap, _∙_, subst}
 use lib.ListN.{length, getD}
 use borrow.Author.Tests.{eq-eqb, ne-eqb}
@@ -11,8 +12,8 @@ use Rattle.group.proofs.StateLaws.{sound-of-run}
 use Rattle.reader.specs.declared.Reader.{Reader}
 use Rattle.entry.specs.declared.ScanEnd.the-variants.{Reached}
 use Rattle.reader.specs.declared.ReadAnswer.the-variants as answer
-use Rattle.reader.specs.Answer.{closing, readRefusal, readCall, groupRows, rowsLeft}
-use Rattle.reader.proofs.Accepted.{Ready, Passed, accepted, read-refused}
+use Rattle.reader.specs.Answer.{closing, repeats, readRefusal, readCall, groupRows, rowsLeft}
+use Rattle.reader.proofs.Accepted.{Ready, Passed, accepted, not-repeat, read-refused}
 use Rattle.layout.specs.Items.{Each}
 use Rattle.layout.specs.Items.Each.{each-none, each-more}
 use Rattle.layout.specs.Layout.{Image}
@@ -92,24 +93,25 @@ pub each-before : {P : Image → Type 0} (a b : List Image) → Each P (a ++ b) 
 each-before [] b e = each-none
 each-before (g ∷ a) b (each-more h e) = each-more h (each-before a b e)
 
--- A group whose number is not the next is refused with 5, whatever it holds and whatever rows are lent, by a state that
--- accepts some other group, if its buffer is L bytes long.
-pub other-number : {s : Reader} {g : Image} (h : Image) → First s g → length (h .bytes) ≡ s .size → (h .number ≡ s .next → ⊥) → (room : ℕ) →
+-- A group whose number is neither the next nor the last is refused with 5, whatever it holds and whatever rows are lent, by a
+-- state that accepts some other group, if its buffer is L bytes long.
+pub other-number : {s : Reader} {g : Image} (h : Image) → First s g → length (h .bytes) ≡ s .size → (h .number ≡ s .next → ⊥) → (h .number + 1 ≡ s .next → ⊥) → (room : ℕ) →
     readCall s (h .bytes) (h .number) (h .entries) room ≡ answer.Refused s 5 0
 unfolding readRefusal
-other-number {s} h f long other room =
+other-number {s} h f long other no-repeat room =
     let five : 5 ≡ readRefusal s (length (h .bytes)) (h .number) (h .entries) room =
-    rw (sound-of-run _ _ _ _ (f .ready .run), eq-eqb (length (h .bytes)) (s .size) long, ne-eqb (h .number) (s .next) other) in
-    sym (read-refused s (h .bytes) (h .number) (h .entries) room 5 five (λ z. omega arith))
+    rw (sound-of-run _ _ _ _ (f .ready .run), f .ready .began, eq-eqb (length (h .bytes)) (s .size) long, ne-eqb (h .number) (s .next) other) in
+    let never : repeats s (h .number) ≡ false = rw (ne-eqb (h .number + 1) (s .next) no-repeat) in
+    sym (read-refused s (h .bytes) (h .number) (h .entries) room 5 five (λ z. omega arith) (not-repeat s (length (h .bytes)) (h .number) never))
 
 -- .. so a run that goes on with it, after groups that are accepted, is out of order.
 pub out-of-order : {s state : Reader} {rows : List (List ℕ)} (beginning : List Image) (g h : Image) (rest : List Image) → Accepts s beginning rows state → First state g →
-    length (h .bytes) ≡ state .size → (h .number ≡ state .next → ⊥) → OutOfOrder s beginning h rest
-out-of-order {s} {state} {rows} beginning g h rest a f long other =
+    length (h .bytes) ≡ state .size → (h .number ≡ state .next → ⊥) → (h .number + 1 ≡ state .next → ⊥) → OutOfOrder s beginning h rest
+out-of-order {s} {state} {rows} beginning g h rest a f long other no-repeat =
     record {
       accepted = (rows, (state, a));
       refused =
-          λ others t o old. subst (λ (y : Reader). readCall y (h .bytes) (h .number) (h .entries) (length old) ≡ answer.Refused y 5 0) (same-state a o) (other-number h f long other (length old));
+          λ others t o old. subst (λ (y : Reader). readCall y (h .bytes) (h .number) (h .entries) (length old) ≡ answer.Refused y 5 0) (same-state a o) (other-number h f long other no-repeat (length old));
       never =
           λ others t o. let r = split beginning (h ∷ rest) o in other (first-of (r .goes-on) .ready .next ∙ ap (λ (y : Reader). y .next) (same-state (r .begins) a));
     }

@@ -23,7 +23,7 @@ use Rattle.reader.specs.declared.ReaderStart.the-variants as start
 use Rattle.entry.specs.Rules.{mayFollow, entryFault}
 use Rattle.entry.specs.Scan.{scan}
 use Rattle.rows.specs.Rows.{rowsFrom}
-use Rattle.reader.specs.Answer.{fresh, readerStartCall, readRefusal, readCall, groupScan, groupRows}
+use Rattle.reader.specs.Answer.{fresh, readerStartCall, isRepeat, readRefusal, readCall, groupScan, groupRows}
 use Rattle.layout.specs.Items.{Laid, Tail, Piece, Each, SoundLaid, SoundTail, items, soFar, tokens, tailTokens, middles, lateBy, grouped, joined, wholeOf}
 use Rattle.layout.specs.Items.Each.{each-none, each-more}
 use Rattle.layout.specs.Items.Laid.{laidEntire, laidSpanned, laidSeparator, endedEarly}
@@ -41,8 +41,8 @@ use Rattle.layout.proofs.Decode.{length-entries}
 use Rattle.layout.proofs.Theorems.{exchanged}
 
 -- All that a layout and a read compute by.
-unfoldable opens : Unit {0}
-unfolding put numberAt bytesOf entryAt entryBytes entriesBelow tableBytes meaningOf runSound startRefusal mayFollow entryFault scan rowsFrom readerStartCall readRefusal readCall groupScan groupRows items soFar tokens tailTokens middles lateBy grouped joined wholeOf kindOf countOf dataOf userData b4After plainLeft entriesOf pieceOf piecesFrom piecesOf itemsAfter begunAfter
+unfoldable pub opens : Unit {0}
+unfolding put numberAt bytesOf entryAt entryBytes entriesBelow tableBytes meaningOf runSound startRefusal mayFollow entryFault scan rowsFrom readerStartCall isRepeat readRefusal readCall groupScan groupRows items soFar tokens tailTokens middles lateBy grouped joined wholeOf kindOf countOf dataOf userData b4After plainLeft entriesOf pieceOf piecesFrom piecesOf itemsAfter begunAfter
 opens = tt
 
 -- A group of 64 bytes: gap bytes of 7, information bytes of 9, b4 clear in the first `plain` entries.
@@ -137,7 +137,7 @@ made plain groups sound soundTail groupsOf fits = shown groups sound soundTail g
 
 -- A state between groups, with b4 and without, and rows of other numbers, more than are asked for.
 abbrev atWarned : Bool → ℕ → Phase → ℕ → Reader
-atWarned warned next p sum = record { size = 64; next = next; phase = p; warned = warned; sum = sum }
+atWarned warned next p sum = record { size = 64; next = next; phase = p; warned = warned; accepted = true; sum = sum }
 
 abbrev at : ℕ → Phase → ℕ → Reader
 at next p sum = atWarned false next p sum

@@ -4,6 +4,7 @@
 use Prim.Native.Nat.{ℕ, zero, suc, _+_, _*_}
 use mathlib.Core.List.{List, [], _∷_, _++_}
 use mathlib.Core.Bool.{Bool, true, false}
+use lib.Dec.{leb}
 use lib.ListN.{length, replicate}
 use Rattle.laying.specs.Start.{freshState, writerStartCall}
 use Rattle.answer.specs.Answer.{numbersTold}
@@ -160,7 +161,7 @@ warnedDesk lent number = desk (warnState true (freshState size number)) (replica
 
 -- A reader before the group of this number, and one that stands free with b4 clear.
 abbrev pub readerAt : (number : ℕ) → Phase → (b4 : Bool) (sum : ℕ) → Reader
-readerAt number p b4 sum = record { size = size; next = number; phase = p; warned = b4; sum = sum }
+readerAt number p b4 sum = record { size = size; next = number; phase = p; warned = b4; accepted = leb 2 number; sum = sum }
 
 abbrev pub freeReader : ℕ → Reader
 freeReader number = readerAt number phase.Free false 0

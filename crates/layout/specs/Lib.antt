@@ -3,6 +3,7 @@
 -- state of either, and the bench table.
 pub mod Items
 pub mod Layout
+pub mod Repeats
 pub mod Accepting
 pub mod Counts
 pub mod EarlyWarning

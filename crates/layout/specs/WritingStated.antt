@@ -1,4 +1,5 @@
--- What the theorems of a writer state where it is more than one fact: a run that gives an account back, a run that was ended,
+-- What the theorems of a writer state where it is more than one fact: a run that gives an account back, alone
+-- or among repeats, a run that was ended,
 -- and where the totals stand of records that span groups.
 -- Assumes nothing.
 use Prim.Native.Nat.{ℕ, _≤_}
@@ -13,9 +14,10 @@ use Rattle.laying.specs.Laying.{Desk}
 use Rattle.layout.specs.Items.{Piece}
 use Rattle.layout.specs.Items.Piece.{aTotal, aLast}
 use Rattle.layout.specs.Layout.{Image, Run}
+use Rattle.layout.specs.Repeats.{withoutRepeats}
 use Rattle.layout.specs.Accepting.{Lent}
 use Rattle.layout.specs.Reading.{begunAfter, itemsRead, begunRead}
-use Rattle.layout.specs.Stated.{AcceptedWith}
+use Rattle.layout.specs.Stated.{AcceptedWith, ThroughWith}
 use Rattle.layout.specs.Writing.{Account}
 
 -- A run that is accepted from the reader's own start, by reads which are lent just these row buffers, and the rows that they
@@ -26,6 +28,15 @@ pub record GivesBack (size first : ℕ) (run : List Image) (lent : List (List �
   pub accepted : AcceptedWith reader run lent (a .begun)
   pub items : itemsRead run (accepted .rows) ≡ a .finished
   pub begun : begunRead run (accepted .rows) ≡ a .begun
+
+-- The same of a run that is handed in with repeats: it is accepted to its end, and the rows of its groups, the repeats taken out,
+-- give back the account.
+pub record GivesBackAmong (size first : ℕ) (handed : List Image) (lent : List (List ℕ)) (a : Account) : Type 0 where
+  pub reader : Reader
+  pub starts : readerStartCall size first ≡ start.Started reader
+  pub through : ThroughWith reader handed lent (a .begun)
+  pub items : itemsRead (withoutRepeats handed) (through .rows) ≡ a .finished
+  pub begun : begunRead (withoutRepeats handed) (through .rows) ≡ a .begun
 
 -- After an end: no entry stands in the group and no record is open, the account at the last close is the account now, and the
 -- groups closed give all of it back.

@@ -1,4 +1,5 @@
--- Document 01, "Bench program": what is printed, as ASCII codes. The words are written as they are printed.
+-- Document 01, "Bench program", with change request 2026-05: what is printed, as ASCII codes. The words are written as they are
+-- printed.
 -- Assumes nothing.
 use Prim.Native.Nat.{ℕ, zero, suc, _+_, _*_, _/_, _%_}
 use Prim.Native.Char.{code}
@@ -70,6 +71,10 @@ rowLines (suc n) rows =
 -- What is printed of an accepted group.
 unfoldable pub groupLines : ℕ → ℕ → List ℕ → List ℕ
 groupLines number entries rows = groupLine number entries ++ rowLines entries rows
+
+-- 2026-05: "The lister prints `repeat` and the number."
+unfoldable pub repeatLine : ℕ → List ℕ
+repeatLine number = labelled (ascii "repeat") number ++ newline
 
 -- "A refusal prints `refused R at K`"
 unfoldable pub refusalLine : ℕ → ℕ → List ℕ

@@ -6,7 +6,7 @@ ghost use mathlib.Core.List.{[], _∷_};
 ghost use lib.ListN.{length};
 ghost use Rattle.lines.specs.Added.{Added};
 ghost use Rattle.lines.specs.Names.{namesBelow};
-ghost use Rattle.lines.specs.Text.{decimal, kindName, ending, field, labelled, groupLine, rowLine, rowLines, groupLines, refusalLine, endLine, badLine};
+ghost use Rattle.lines.specs.Text.{decimal, kindName, ending, field, labelled, groupLine, rowLine, rowLines, groupLines, repeatLine, refusalLine, endLine, badLine};
 use group::Phase;
 use numbers::bytes::put_bytes;
 
@@ -138,6 +138,15 @@ pub fn add_group(text: &mut [u8], at: usize, number: u32, entries: u32, rows: &[
 {
     let below = add_head(text, at, number, entries);
     add_rows(text, below, entries as usize, rows)
+}
+
+// The line of a repeat.
+pub fn add_repeat(text: &mut [u8], at: usize, number: u32) -> usize
+    requires { ⌜ at + 18 ≤ length (now text) ⌝ }
+    ensures { λ r. ⌜ Added 18 (now (text .entry)) at (repeatLine number) (now (text .exit)) r ⌝ }
+{
+    let numbered = add_labelled(text, at, b"repeat", number);
+    add_byte(text, numbered, b'\n')
 }
 
 // The line of a refusal.

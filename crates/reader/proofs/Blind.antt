@@ -11,7 +11,7 @@ use Rattle.entry.specs.Table.{SameTable}
 use Rattle.entry.proofs.Tables.{same-entries}
 use Rattle.reader.specs.declared.Reader.{Reader}
 use Rattle.reader.specs.declared.ReadAnswer.{ReadAnswer}
-use Rattle.reader.specs.Answer.{readRefusal, groupScan, readCall, groupRows, rowsLeft, Reads}
+use Rattle.reader.specs.Answer.{isRepeat, readRefusal, groupScan, readCall, groupRows, rowsLeft, Reads}
 use Rattle.reader.proofs.Accepted.{ready}
 
 -- What a read answers, and the rows that it leaves of old ones in a form.
@@ -21,14 +21,15 @@ record Same (form : List ℕ → List ℕ) (s : Reader) (g h : List ℕ) (number
 
 same : (form : List ℕ → List ℕ) (s : Reader) (g h : List ℕ) (number n room : ℕ) (old : List ℕ) → SameTable (s .size) n g h → Same form s g h number n room old
 unfolding readCall groupScan groupRows
-same form s g h number n room old t = by (eqb (readRefusal s (length h) number n room) 0) refl
+same form s g h number n room old t = by (isRepeat s (length h) number) refl (eqb (readRefusal s (length h) number n room) 0) refl
   where
-    by : (b : Bool) → eqb (readRefusal s (length h) number n room) 0 ≡ b → Same form s g h number n room old
-    by true e =
+    by : (r : Bool) → isRepeat s (length h) number ≡ r → (b : Bool) → eqb (readRefusal s (length h) number n room) 0 ≡ b → Same form s g h number n room old
+    by true f b e = record { answers = rw (t .long, f); rows = rw (t .long, f) }
+    by false f true e =
         let r = ready s (length h) number n room (eqb-true _ 0 e) in
         let alike = same-entries (s .size) n g h (r .fits) t in
         record { answers = rw (t .long, alike); rows = rw (t .long, alike) }
-    by false e = record { answers = rw (t .long, e); rows = rw (t .long, e) }
+    by false f false e = record { answers = rw (t .long, f, e); rows = rw (t .long, f, e) }
 
 -- "We neither read nor write those 32 bytes": a read's answer and the rows that it leaves hang on the table's bytes alone. Of two
 -- groups whose tables are alike, any two outcomes that meet the contract coincide.

@@ -3,6 +3,7 @@ pub mod Refusals
 pub mod Accepted
 pub mod GroupRows
 pub mod Sound
+pub mod Repeats
 pub mod Settled
 pub mod Refused
 pub mod Blind

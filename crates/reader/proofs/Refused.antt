@@ -23,7 +23,7 @@ use Rattle.entry.specs.Rules.{b4Kept, followKept, zeroPart, aboveOne, tooLong, 
 use Rattle.entry.specs.Scan.{after, isLast, scan}
 use Rattle.reader.specs.declared.Reader.{Reader}
 use Rattle.reader.specs.declared.ReadAnswer.the-variants as answer
-use Rattle.reader.specs.Answer.{sound, lengthKept, nextIs, rowsFit, readRefusal, opening, groupScan, answered, readCall}
+use Rattle.reader.specs.Answer.{sound, lengthKept, isRepeat, nextIs, rowsFit, readRefusal, opening, groupScan, answered, readCall}
 use Rattle.reader.specs.Refused.{isOneOf, beforeScan, atEntry, RefusedRead}
 
 -- 0, or one of these.
@@ -96,22 +96,23 @@ before-numbered s long number n room =
 pub read-refuses : (s t : Reader) (group : List ℕ) (number n room refusal place : ℕ) → readCall s group number n room ≡ answer.Refused t refusal place →
     RefusedRead s n t refusal place
 unfolding readCall groupScan
-read-refuses s t group number n room refusal place e = by (eqb r 0) refl (groupScan s group n) refl e (before-numbered s (length group) number n room)
+read-refuses s t group number n room refusal place e = by (isRepeat s (length group) number) (eqb r 0) refl (groupScan s group n) refl e (before-numbered s (length group) number n room)
   where
     r : ℕ
     r = readRefusal s (length group) number n room
 
-    by : (b : Bool) → eqb r 0 ≡ b → (o : ScanEnd) → groupScan s group n ≡ o → cond b (answered s o) (answer.Refused s r 0) ≡ answer.Refused t refusal place
-        → NoneOr beforeScan r → RefusedRead s n t refusal place
-    by true p (scanned.Reached c) q h x = let z : _≡_ {A = ℕ} 0 1 = cc in absurd (omega arith)
-    by true p (scanned.Refused fault at c) q h x =
+    by : (a b : Bool) → eqb r 0 ≡ b → (o : ScanEnd) → groupScan s group n ≡ o
+        → cond a (answer.Repeated s) (cond b (answered s o) (answer.Refused s r 0)) ≡ answer.Refused t refusal place → NoneOr beforeScan r → RefusedRead s n t refusal place
+    by true b p o q h x = let z : _≡_ {A = ℕ} 0 1 = cc in absurd (omega arith)
+    by false true p (scanned.Reached c) q h x = let z : _≡_ {A = ℕ} 0 1 = cc in absurd (omega arith)
+    by false true p (scanned.Refused fault at c) q h x =
         let a = scan-place _ _ (entriesBelow group (s .size - informationLength) n) 1 (opening s) fault at c q in
         let f : fault ≡ refusal = cc in
         let g : at ≡ place = cc in
         let u : s ≡ t = cc in
         subst (λ (v : Reader). RefusedRead s n v refusal place) u (RefusedRead.at-an-entry (rw (← f) (a .told)) (omega (arith, a .from)) (omega (arith, a .to, length-entries group (s .size - informationLength) n)))
-    by false p o q h (inl z) = absurd (eqb-false r 0 p z)
-    by false p o q h (inr y) =
+    by false false p o q h (inl z) = absurd (eqb-false r 0 p z)
+    by false false p o q h (inr y) =
         let f : r ≡ refusal = cc in
         let g : 0 ≡ place = cc in
         let u : s ≡ t = cc in

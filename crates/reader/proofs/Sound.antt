@@ -5,6 +5,7 @@ use mathlib.Core.Bool.{true}
 use mathlib.Core.List.{List}
 use Prim.Native.Nat.{ℕ, _+_}
 use native.Mathlib.Omega.{arith}
+use borrow.Author.Tests.{le-leb}
 use Rattle.group.specs.declared.Phase.{Phase}
 use Rattle.group.specs.declared.Phase.the-variants as phase
 use Rattle.group.proofs.StateLaws.{Run, sound-of-run}
@@ -31,4 +32,4 @@ sound-again s t group number n room e =
     let suits = suits-scan _ _ _ 1 (opening s) (p .end) (rw phase-again (r .kept)) (p .reached) in
     let run : Run (s .size) (s .next + 1) (phaseAfter (p .end .stand)) (p .end .sum) =
     record { least = r .least; most = r .most; some = omega arith; number = omega (arith, p .ready .next, p .ready .numbered); kept = suits } in
-    rw (p .left) (sound-of-run _ _ _ _ run)
+    rw (p .left, sound-of-run _ _ _ _ run, le-leb 2 (s .next + 1) (omega (arith, r .some)))

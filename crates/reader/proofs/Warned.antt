@@ -27,7 +27,7 @@ use Rattle.reader.specs.declared.ReadAnswer.{ReadAnswer}
 use Rattle.reader.specs.declared.ReadAnswer.the-variants as answer
 use Rattle.reader.specs.Answer.{opening, groupScan, readRefusal, readCall, stateOf}
 use Rattle.reader.specs.Refused.{RefusedRead}
-use Rattle.reader.proofs.Accepted.{ready, accepted, read-scanned}
+use Rattle.reader.proofs.Accepted.{ready, accepted, repeated, read-scanned}
 use Rattle.reader.proofs.Refused.{read-refuses}
 
 -- An entry that is passed has b4 where it stood set before it, and leaves it as its flag has it.
@@ -97,6 +97,7 @@ warned-stays s group number n room h = by (readCall s group number n room) refl
   where
     by : (a : ReadAnswer) → readCall s group number n room ≡ a → stateOf a .warned ≡ true
     by (answer.Accepted t) e = keeps-set (read-keeps s t group number n room e) h
+    by (answer.Repeated t) e = ap (λ (r : Reader). r .warned) (repeated s t group number n room e .1) ∙ h
     by (answer.Refused t refusal place) e = ap (λ (r : Reader). r .warned) (as-given (read-refuses s t group number n room refusal place e)) ∙ h
 
 -- "9 now also meets the first entry of a later group": where the state has b4 set and nothing is refused before the scan, a first entry

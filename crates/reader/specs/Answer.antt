@@ -3,15 +3,15 @@
 use Prim.Native.Nat.{ℕ, _+_, _*_, _-_}
 use mathlib.Core.Path.{_≡_}
 use mathlib.Core.List.{List}
-use mathlib.Core.Bool.{Bool, false, cond, not, _&&_}
+use mathlib.Core.Bool.{Bool, true, false, cond, not, _&&_, _||_}
 use lib.Dec.{eqb, leb}
 use lib.ListN.{length}
 use Rattle.group.specs.declared.Phase.the-variants as phase
 use Rattle.group.specs.Sizes.{informationLength, lastNumber, entriesKept, entryOffset}
 use Rattle.numbers.specs.Store.{put}
 use Rattle.answer.specs.declared.Told.{Told}
-use Rattle.answer.specs.declared.Told.the-variants.{RefusedAt}
-use Rattle.answer.specs.Answer.{accepted, ifAccepted}
+use Rattle.answer.specs.declared.Told.the-variants.{Accepted, RefusedAt}
+use Rattle.answer.specs.Answer.{accepted}
 use Rattle.group.specs.Entries.{entriesBelow}
 use Rattle.group.specs.State.{runSound, startRefusal}
 use Rattle.reader.specs.declared.Reader.{Reader}
@@ -26,22 +26,36 @@ use Rattle.entry.specs.Rules.{standAt, phaseAfter}
 use Rattle.entry.specs.Scan.{scan}
 use Rattle.rows.specs.Rows.{rowsFrom}
 
--- "A reader starts with L and the first number." b4 is clear: "a close no longer clears it, a fresh start does".
+-- "A reader starts with L and the first number." b4 is clear: "a close no longer clears it, a fresh start does". No group has been
+-- accepted yet.
 abbrev pub fresh : ℕ → ℕ → Reader
-fresh size first = record { size = size; next = first; phase = phase.Free; warned = false; sum = 0 }
+fresh size first = record { size = size; next = first; phase = phase.Free; warned = false; accepted = false; sum = 0 }
 
 -- "Order: start 2, 3." "a refused start gives no state"
 unfoldable pub readerStartCall : ℕ → ℕ → ReaderStart
 readerStartCall size first =
     cond (eqb (startRefusal size first) 0) (start.Started (fresh size first)) (start.Refused (startRefusal size first))
 
--- "It is sound if .." (all of it is what both states share).
+-- 2026-05: a state "with next number 1 that says a group was accepted is not sound".
+abbrev pub acceptedKept : (next : ℕ) (accepted : Bool) → Bool
+acceptedKept next accepted = leb 2 next || not accepted
+
+-- "It is sound if .." (what both states share), and what it says of an accepted group can be.
 abbrev pub sound : Reader → Bool
-sound s = runSound (s .size) (s .next) (s .phase) (s .sum)
+sound s = runSound (s .size) (s .next) (s .phase) (s .sum) && acceptedKept (s .next) (s .accepted)
 
 -- 4: the group buffer's length is L.
 abbrev pub lengthKept : Reader → ℕ → Bool
 lengthKept s length = eqb length (s .size)
+
+-- 2026-05: "A group with the number of the last accepted group of this run". "Before any group has been accepted in the run there
+-- is no repeat."
+abbrev pub repeats : Reader → ℕ → Bool
+repeats s number = eqb (number + 1) (s .next) && s .accepted
+
+-- "decided after 4, before 5, and so at 65,536 too": the state is sound, the buffer L bytes long, and the group a repeat.
+unfoldable pub isRepeat : Reader → (length number : ℕ) → Bool
+isRepeat s length number = sound s && (lengthKept s length && repeats s number)
 
 -- 5: the number is the next. "At 65,536 every number is refused."
 abbrev pub nextIs : Reader → ℕ → Bool
@@ -64,9 +78,10 @@ readRefusal s length number n room =
 abbrev pub opening : Reader → Cursor
 opening s = record { stand = standAt (s .phase); warned = s .warned; sum = s .sum; reached = 0 }
 
--- The state after a group whose scan reached its end.
+-- The state after a group whose scan reached its end: it says that a group was accepted.
 abbrev pub closing : Reader → Cursor → Reader
-closing s c = record { size = s .size; next = s .next + 1; phase = phaseAfter (c .stand); warned = c .warned; sum = c .sum }
+closing s c =
+    record { size = s .size; next = s .next + 1; phase = phaseAfter (c .stand); warned = c .warned; accepted = true; sum = c .sum }
 
 -- The scan of a whole group of n entries.
 unfoldable pub groupScan : Reader → List ℕ → ℕ → ScanEnd
@@ -78,32 +93,37 @@ abbrev pub answered : Reader → ScanEnd → ReadAnswer
 answered s (scanned.Reached c) = answer.Accepted (closing s c)
 answered s (scanned.Refused fault place c) = answer.Refused s fault place
 
--- What a read answers that is lent rows for `room` numbers.
+-- What a read answers that is lent rows for `room` numbers. Of a repeat "the contents aren't examined".
 unfoldable pub readCall : Reader → (group : List ℕ) (number n room : ℕ) → ReadAnswer
 readCall s group number n room =
-    cond (eqb (readRefusal s (length group) number n room) 0) (answered s (groupScan s group n))
-    (answer.Refused s (readRefusal s (length group) number n room) 0)
+    cond (isRepeat s (length group) number) (answer.Repeated s)
+    (cond (eqb (readRefusal s (length group) number n room) 0) (answered s (groupScan s group n))
+    (answer.Refused s (readRefusal s (length group) number n room) 0))
 
 -- The rows of a group of n entries.
 unfoldable pub groupRows : Reader → List ℕ → ℕ → List ℕ
 groupRows s group n = rowsFrom 0 (entriesBelow group (s .size - informationLength) n)
 
--- What the firmware is told of each case.
+-- What the firmware is told of each case. A repeat is outcome 2: "C returns 0, its answer slice says so".
 abbrev pub told : ReadAnswer → Told
 told (answer.Accepted t) = accepted
+told (answer.Repeated s) = Accepted 2 0 0 0
 told (answer.Refused s refusal place) = RefusedAt refusal place
 
 abbrev pub startTold : ReaderStart → Told
 startTold (start.Started s) = accepted
 startTold (start.Refused refusal) = RefusedAt refusal 0
 
--- "Rows after the n-th are untouched." A refusal leaves all of them.
+-- "Rows after the n-th are untouched." A repeat and a refusal leave all of them.
 abbrev pub rowsLeft : ReadAnswer → (new old : List ℕ) → List ℕ
-rowsLeft a new old = ifAccepted (told a) (put old 0 new) old
+rowsLeft (answer.Accepted t) new old = put old 0 new
+rowsLeft (answer.Repeated s) new old = old
+rowsLeft (answer.Refused s refusal place) new old = old
 
--- The state that a read leaves: "the state as given" where it is refused.
+-- The state that a read leaves: "the state as given" where it is refused, and at a repeat, which lets "state and rows stay".
 abbrev pub stateOf : ReadAnswer → Reader
 stateOf (answer.Accepted t) = t
+stateOf (answer.Repeated s) = s
 stateOf (answer.Refused s refusal place) = s
 
 -- Rows that are lent as numbers. (Lent as bytes they are stored by `inBytes`.)

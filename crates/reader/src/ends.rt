@@ -56,6 +56,7 @@ pub(crate) fn closing(reader: Reader, cursor: Cursor) -> Reader
         next: reader.next + 1,
         phase: phase_after(stand),
         warned: cursor.warned,
+        accepted: true,
         sum: cursor.sum,
     }
 }

@@ -6,17 +6,18 @@ ghost use mathlib.Core.Path.{_≡_};
 ghost use Prim.Native.Nat.{_/_};
 ghost use lib.ListN.{length};
 ghost use Rattle.numbers.specs.Numbers.{inBytes};
-ghost use Rattle.reader.specs.Answer.{readerStartCall, readRefusal, readCall, asNumbers, Reads};
+ghost use Rattle.reader.specs.Answer.{readerStartCall, sound, repeats, readRefusal, readCall, asNumbers, Reads};
 use entry::ScanEnd;
 use group::Group;
 use group::Phase;
 
-// A reader's state between groups. The two fields that are one byte wide stand together.
+// A reader's state between groups. The three fields that are one byte wide stand together.
 pub struct Reader {
     pub size: u32,
     pub next: u32,
     pub phase: Phase,
     pub warned: bool,
+    pub accepted: bool,
     pub sum: u32,
 }
 
@@ -28,6 +29,7 @@ pub enum ReaderStart {
 // The state stands first in each case, so that it lies at one place whichever it is.
 pub enum ReadAnswer {
     Accepted(Reader),
+    Repeated(Reader),
     Refused {
         state: Reader,
         refusal: u32,
@@ -48,16 +50,39 @@ impl Reader {
             next: first,
             phase: Phase::Free,
             warned: false,
+            accepted: false,
             sum: 0,
         })
+    }
+
+    fn is_sound(self) -> bool
+        ensures { λ r. ⌜ r ≡ sound self ⌝ }
+    {
+        let phase = self.phase;
+        if !group::state::run_sound(self.size, self.next, phase, self.sum) {
+            return false;
+        }
+        if self.next >= 2 {
+            return true;
+        }
+        !self.accepted
+    }
+
+    // Whether a number is that of the last accepted group. The sum is taken in 64 bits: any number may come in.
+    fn repeats(self, number: u32) -> bool
+        ensures { λ r. ⌜ r ≡ repeats self number ⌝ }
+    {
+        if (number as u64) + 1 != self.next as u64 {
+            return false;
+        }
+        self.accepted
     }
 
     // The number of a refusal before the scan, 0 if there is none.
     fn refusal(self, length: usize, number: u32, entries: u32, room: usize) -> u32
         ensures { λ r. ⌜ r ≡ readRefusal self length number entries room ⌝ }
     {
-        let phase = self.phase;
-        if !group::state::run_sound(self.size, self.next, phase, self.sum) {
+        if !self.is_sound() {
             return 1;
         }
         if length != self.size as usize {
@@ -78,13 +103,19 @@ impl Reader {
         0
     }
 
-    // What a read answers that is lent rows for `room` numbers. Nothing is written. From the scan on the size is the group's length,
-    // which is at hand.
+    // What a read answers that is lent rows for `room` numbers. Nothing is written. A repeat is looked for only where a read would
+    // else be refused with 5, so that an accepted read pays nothing for it. From the scan on the size is the group's length, which is
+    // at hand.
     pub fn judge(self, group: &[u8], number: u32, entries: u32, room: usize) -> ReadAnswer
         ensures { λ r. ⌜ r ≡ readCall self (now (group .entry)) number entries room ⌝ }
     {
         let refusal = self.refusal(group.len(), number, entries, room);
         if refusal != 0 {
+            if refusal == 5 {
+                if self.repeats(number) {
+                    return ReadAnswer::Repeated(self);
+                }
+            }
             return ReadAnswer::Refused {
                 state: self,
                 refusal,
@@ -113,6 +144,7 @@ impl Reader {
                 rows::fill(group, self.size, entries, rows);
                 answer
             }
+            ReadAnswer::Repeated(_) => answer,
             ReadAnswer::Refused {
                 state: _,
                 refusal: _,
@@ -132,6 +164,7 @@ impl Reader {
                 rows::bytes::fill_bytes(group, size, entries, rows);
                 answer
             }
+            ReadAnswer::Repeated(_) => answer,
             ReadAnswer::Refused {
                 state: _,
                 refusal: _,

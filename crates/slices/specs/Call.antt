@@ -7,7 +7,7 @@ use mathlib.Core.List.{List, []}
 use mathlib.Core.Bool.{Bool, true, false, cond, not, _&&_}
 use lib.Dec.{eqb}
 use lib.ListN.{length, getD}
-use Rattle.numbers.specs.Numbers.{inBytes}
+use Rattle.numbers.specs.Numbers.{numberAt, inBytes}
 use Rattle.answer.specs.declared.Told.{Told}
 use Rattle.answer.specs.declared.Told.the-variants.{RefusedAt}
 use Rattle.answer.specs.Answer.{numbersTold, refusalTold, ifAccepted}
@@ -25,6 +25,10 @@ left refusal lent answer = record { refusal = refusal; lent = lent; answer = ans
 -- The k-th of the slices that a call may write, k from 0.
 abbrev pub slice : Left → ℕ → List ℕ
 slice o k = getD (o .lent) k []
+
+-- The outcome in the answer slice: the third of its six numbers.
+abbrev pub outcomeSeen : Left → ℕ
+outcomeSeen o = numberAt 4 (o .answer) 8
 
 -- "an answer is six numbers", "each number four bytes"
 abbrev pub answerLength : ℕ

@@ -47,9 +47,13 @@ module _ (slice : List ℕ) where
   unfolding readerMeant
   reader-unmeant h = rw h
 
-  pub reader-by-b4 : phaseMeant (field slice 2) ≡ true → b4Meant (field slice 4) ≡ readerMeant slice
+  pub reader-b4-unmeant : phaseMeant (field slice 2) ≡ true → 1 < field slice 4 → false ≡ readerMeant slice
   unfolding readerMeant
-  reader-by-b4 h = rw h
+  reader-b4-unmeant h k = rw (h, lt-leb (field slice 4) 1 k)
+
+  pub accepted-meant : phaseMeant (field slice 2) ≡ true → field slice 4 ≤ 1 → b4Meant (field slice 5) ≡ readerMeant slice
+  unfolding readerMeant
+  accepted-meant h k = rw (h, le-leb (field slice 4) 1 k)
 
 -- The tests of a writer's slice and of `warn`, one law an exit.
 module _ (slice : List ℕ) (warn : ℕ) where

@@ -12,12 +12,12 @@ use Rattle.reader.specs.declared.Reader.{Reader}
 use Rattle.laying.specs.declared.Writer.{Writer}
 use Rattle.states.specs.declared.Run.{Run}
 
--- Both states begin with the same four numbers; a reader's has one more, a writer's four.
+-- Both states begin with the same four numbers; a reader's has two more, a writer's four.
 abbrev pub runLength : ℕ
 runLength = 16
 
 abbrev pub readerLength : ℕ
-readerLength = 20
+readerLength = 24
 
 abbrev pub writerLength : ℕ
 writerLength = 32
@@ -34,7 +34,8 @@ phaseOf n = cond (eqb n 0) Free (cond (eqb n 1) Inside Owed)
 abbrev pub phaseMeant : ℕ → Bool
 phaseMeant n = leb n 2
 
--- b4 as a number, 0 clear and 1 set, and back. Above 1 a number "has no meaning".
+-- b4 as a number, 0 clear and 1 set, and back. Above 1 a number "has no meaning". A reader's `accepted` is told by the same two
+-- numbers: 1 where a group of the run has been accepted.
 abbrev pub b4Number : Bool → ℕ
 b4Number false = 0
 b4Number true = 1
@@ -49,7 +50,7 @@ b4Meant n = leb n 1
 abbrev pub runOf : List ℕ → Run
 runOf slice = record { size = field slice 0; next = field slice 1; phase = phaseOf (field slice 2); sum = field slice 3 }
 
--- A reader's state: these four, then b4.
+-- A reader's state: these four, then b4 and, since 2026-05, whether a group has been accepted.
 unfoldable pub readerOf : List ℕ → Reader
 readerOf slice =
     record {
@@ -57,11 +58,12 @@ readerOf slice =
       next = runOf slice .next;
       phase = runOf slice .phase;
       warned = b4Set (field slice 4);
+      accepted = b4Set (field slice 5);
       sum = runOf slice .sum;
     }
 
 abbrev pub readerNumbers : Reader → List ℕ
-readerNumbers s = s .size ∷ s .next ∷ phaseNumber (s .phase) ∷ s .sum ∷ b4Number (s .warned) ∷ []
+readerNumbers s = s .size ∷ s .next ∷ phaseNumber (s .phase) ∷ s .sum ∷ b4Number (s .warned) ∷ b4Number (s .accepted) ∷ []
 
 abbrev pub readerBytes : Reader → List ℕ
 readerBytes s = inBytes (readerNumbers s)
@@ -89,7 +91,7 @@ writerBytes s = inBytes (writerNumbers s)
 
 -- The numbers of a state slice that could have no meaning have one.
 unfoldable pub readerMeant : List ℕ → Bool
-readerMeant slice = phaseMeant (field slice 2) && b4Meant (field slice 4)
+readerMeant slice = phaseMeant (field slice 2) && (b4Meant (field slice 4) && b4Meant (field slice 5))
 
 unfoldable pub writerMeant : List ℕ → Bool
 writerMeant slice = phaseMeant (field slice 2) && b4Meant (field slice 6)

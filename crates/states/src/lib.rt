@@ -20,7 +20,7 @@ pub struct Run {
 }
 
 // The lengths of the state slices, in bytes.
-pub const READER_LENGTH: usize = 20;
+pub const READER_LENGTH: usize = 24;
 
 pub const WRITER_LENGTH: usize = 32;
 
@@ -45,7 +45,7 @@ fn phase_meant(slice: &[u8]) -> bool
     numbers::number_at(slice, 8) <= 2
 }
 
-// Whether the phase and b4 of a reader's slice are numbers that have a meaning.
+// Whether the phase, b4 and accepted of a reader's slice are numbers that have a meaning.
 pub fn reader_meant(slice: &[u8]) -> bool
     requires { ⌜ length (now slice) ≡ readerLength ⌝ }
     ensures { λ r. ⌜ r ≡ readerMeant (now (slice .entry)) ⌝ }
@@ -53,7 +53,10 @@ pub fn reader_meant(slice: &[u8]) -> bool
     if !phase_meant(slice) {
         return false;
     }
-    numbers::number_at(slice, 16) <= 1
+    if numbers::number_at(slice, 16) > 1 {
+        return false;
+    }
+    numbers::number_at(slice, 20) <= 1
 }
 
 // Whether the phase and b4 of a writer's slice, and a call's `warn`, are numbers that have a meaning.
@@ -95,6 +98,7 @@ pub fn reader_of(slice: &[u8]) -> Reader
         next: run.next,
         phase,
         warned: numbers::number_at(slice, 16) == 1,
+        accepted: numbers::number_at(slice, 20) == 1,
         sum: run.sum,
     }
 }

@@ -5,8 +5,9 @@ ghost use mathlib.Core.List.{_∷_};
 ghost use Prim.Native.Nat.{ℕ, _+_, _*_, _≤_};
 ghost use lib.ListN.{length, replicate};
 ghost use Rattle.numbers.specs.Store.{put};
-ghost use Rattle.numbers.specs.Numbers.{numberAt, bytesOf, inBytes};
+ghost use Rattle.numbers.specs.Numbers.{bytesOf, inBytes};
 ghost use Rattle.states.specs.States.{readerLength, writerLength, phaseNumber, b4Number, readerBytes, writerBytes};
+ghost use Rattle.storing.specs.Contracts.{Follows};
 use group::Phase;
 use laying::Writer;
 use reader::Reader;
@@ -38,12 +39,11 @@ fn keep(slice: &mut [u8], at: usize, n: u32)
     }
 }
 
-// The four numbers that a group changes, in a slice that has the size already. The next number is the one that stands there and
-// one more: of a number that is known to be small the compiler would store each byte by itself, of what it loads here all four at
-// once.
+// The five numbers that an accepted group changes, in a slice that has the size already. The next number is the one that stands
+// there and one more: of a number that is known to be small the compiler would store each byte by itself, of what it loads here all
+// four at once. That a group was accepted is 1 whatever the state was.
 pub fn put_next(slice: &mut [u8], r: Reader)
-    requires { ⌜ (length (now slice) ≡ readerLength) × (r .size ≡ numberAt 4 (now slice) 0) ⌝ }
-    requires { ⌜ r .next ≡ numberAt 4 (now slice) 4 + 1 ⌝ }
+    requires { ⌜ (length (now slice) ≡ readerLength) × Follows (now slice) r ⌝ }
     ensures { λ _. ⌜ now (slice .exit) ≡ readerBytes r ⌝ }
 {
     let phase = r.phase;
@@ -54,6 +54,7 @@ pub fn put_next(slice: &mut [u8], r: Reader)
     keep(slice, 8, phase);
     keep(slice, 12, r.sum);
     keep(slice, 16, b4);
+    numbers::put_number(slice, 20, 1);
 }
 
 // The state's eight numbers, over all that stood in the slice.

@@ -17,7 +17,7 @@ use Rattle.reader.specs.Answer.{readerStartCall, readCall, groupRows, rowsLeft,
 use Rattle.reader.proofs.Accepted.{accepted}
 use Rattle.sections.specs.declared.Pair.{Pair}
 use Rattle.lines.specs.Added.{Added}
-use Rattle.lines.specs.Text.{rowLines, groupLines, refusalLine, endLine}
+use Rattle.lines.specs.Text.{rowLines, groupLines, repeatLine, refusalLine, endLine}
 use Rattle.lines.proofs.AddedLaws.{added-as}
 use Rattle.lines.proofs.RowLaws.{rows-first}
 use Rattle.telling.specs.declared.Listed.the-variants.{On}
@@ -65,6 +65,10 @@ module _ (s : Reader) (group : List ℕ) (number n : ℕ) (old rows : List ℕ) 
       let left : rows ≡ put old 0 (groupRows s group n) = reads .rows-left ∙ ap (λ (b : ReadAnswer). rowsLeft b (groupRows s group n) old) e in
       let own : groupLines number n rows ≡ groupLines number n (groupRows s group n) = ap (λ (r : List ℕ). groupLines number n r) left ∙ lines-left s group number n old (omega (arith, room, few-entries t e)) in
       ap (λ (b : ReadAnswer). stepOfRead b number n (groupRows s group n)) (answered (answer.Accepted t) e) ∙ ap (λ (l : List ℕ). record { text = l; then = On t }) (sym own)
+
+  pub read-again : (t : Reader) → a ≡ answer.Repeated t → readStep s group number n ≡ record { text = repeatLine number; then = On t }
+  unfolding readStep
+  read-again t e = ap (λ (b : ReadAnswer). stepOfRead b number n (groupRows s group n)) (answered (answer.Repeated t) e)
 
   pub read-off : (t : Reader) (refusal place : ℕ) → a ≡ answer.Refused t refusal place → readStep s group number n ≡ last (refusalLine refusal place)
   unfolding readStep

@@ -1,4 +1,5 @@
--- What the texts that are told come to: the bytes that the program writes, the room that never counts, and case A of document 01.
+-- What the texts that are told come to: the bytes that the program writes, the room that never counts, a repeat, and case A of
+-- document 01.
 -- Assumes nothing.
 use Prim.Native.Nat.{ℕ, _+_, _*_, _≤_}
 use mathlib.Core.Path.{_≡_, refl, sym, ap, _∙_}
@@ -20,9 +21,10 @@ use Rattle.entry.specs.Scan.{scan}
 use Rattle.rows.specs.Rows.{rowsFrom}
 use Rattle.reader.specs.declared.Reader.{Reader}
 use Rattle.reader.specs.declared.ReadAnswer.the-variants as answer
-use Rattle.reader.specs.Answer.{readerStartCall, sound, lengthKept, nextIs, rowsFit, readRefusal, answered, groupScan, readCall, groupRows}
+use Rattle.reader.specs.Answer.{readerStartCall, sound, lengthKept, isRepeat, nextIs, rowsFit, readRefusal, answered, groupScan, readCall, groupRows}
 use Rattle.sections.specs.Sections.{largestSize, section, imagesSection, groupsSection, sizeSection, sectionsOf, pairAt}
-use Rattle.lines.specs.Text.{decimalIn, decimal, field, labelled, kindName, groupLine, rowLine, rowLines, groupLines, refusalLine, ending, endLine, badLine}
+use Rattle.lines.specs.Text.{decimalIn, decimal, field, labelled, kindName, groupLine, rowLine, rowLines, groupLines, repeatLine, refusalLine, ending, endLine, badLine}
+use Rattle.telling.specs.declared.Listed.the-variants.{On}
 use Rattle.telling.specs.declared.Said.{Said}
 use Rattle.telling.specs.Telling.{Step, badStep, startStep, rowNumbers, readStep, groupStep, endStep, longestText, Tells}
 use Rattle.telling.specs.Listing.{groupsListed, listing}
@@ -56,10 +58,17 @@ room-enough s group number n room small fits =
     ap
     (λ (x : ℕ).
     let r = cond (not (sound s)) 1 (cond (not (lengthKept s (length group))) 4 (cond (not (nextIs s number)) 5 x)) in
-    cond (eqb r 0) (answered s (groupScan s group n)) (answer.Refused s r 0))
+    cond (isRepeat s (length group) number) (answer.Repeated s) (cond (eqb r 0) (answered s (groupScan s group n)) (answer.Refused s r 0)))
     (last-tests (entriesKept (s .size) n) (rowsFit n rowNumbers) (rowsFit n room) (enough s n room small fits))
+
+-- 2026-05: "state and rows stay, the contents aren't examined". Whatever a repeat's image holds and its entry count is, its step is
+-- the one line, and the run goes on with the state as given.
+pub repeat-told : (s : Reader) (image : List ℕ) (number entries : ℕ) → isRepeat s (length image) number ≡ true
+    → readStep s image number entries ≡ record { text = repeatLine number; then = On s }
+unfolding readStep readCall
+repeat-told s image number entries e = rw e
 
 -- "Output, whole" of case A.
 pub case-a : listing input ≡ output
-unfolding numberAt entryAt entriesBelow meaningOf runSound startRefusal mayFollow entryFault scan rowsFrom readerStartCall readRefusal groupScan readCall groupRows section imagesSection groupsSection sizeSection sectionsOf pairAt decimalIn decimal field labelled kindName groupLine rowLine rowLines groupLines refusalLine ending endLine badLine badStep startStep readStep groupStep endStep groupsListed listing
+unfolding numberAt entryAt entriesBelow meaningOf runSound startRefusal mayFollow entryFault scan rowsFrom readerStartCall isRepeat readRefusal groupScan readCall groupRows section imagesSection groupsSection sizeSection sectionsOf pairAt decimalIn decimal field labelled kindName groupLine rowLine rowLines groupLines refusalLine ending endLine badLine badStep startStep readStep groupStep endStep groupsListed listing
 case-a = refl

@@ -1,4 +1,5 @@
--- Document 01, "Bench program": what is printed at each step of a run, and how the run goes on after it.
+-- Document 01, "Bench program", with change request 2026-05: what is printed at each step of a run, and how the run goes on after
+-- it.
 -- Assumes nothing.
 use Prim.Native.Nat.{ℕ, _+_, _*_}
 use mathlib.Core.Path.{_≡_}
@@ -6,7 +7,7 @@ use mathlib.Core.List.{List, []}
 use mathlib.Core.Bool.{Bool, cond}
 use lib.ListN.{length}
 use Rattle.lines.specs.Added.{Added}
-use Rattle.lines.specs.Text.{groupLines, refusalLine, endLine, badLine}
+use Rattle.lines.specs.Text.{groupLines, repeatLine, refusalLine, endLine, badLine}
 use Rattle.reader.specs.declared.Reader.{Reader}
 use Rattle.reader.specs.declared.ReaderStart.{ReaderStart}
 use Rattle.reader.specs.declared.ReaderStart.the-variants as start
@@ -39,10 +40,11 @@ stepOfStart (start.Refused refusal) = last (refusalLine refusal 0)
 unfoldable pub startStep : ℕ → Pair → Step
 startStep size first = stepOfStart (readerStartCall size (first .number))
 
--- "Per accepted group it prints a line `group`, number, `entries`, count, then per row name, offset, count." "A refusal prints
--- `refused R at K` and stops."
+-- "Per accepted group it prints a line `group`, number, `entries`, count, then per row name, offset, count." 2026-05: "The lister
+-- prints `repeat` and the number", and the run goes on with the state as given. "A refusal prints `refused R at K` and stops."
 abbrev pub stepOfRead : ReadAnswer → (number entries : ℕ) (rows : List ℕ) → Step
 stepOfRead (answer.Accepted t) number entries rows = record { text = groupLines number entries rows; then = On t }
+stepOfRead (answer.Repeated s) number entries rows = record { text = repeatLine number; then = On s }
 stepOfRead (answer.Refused s refusal place) number entries rows = last (refusalLine refusal place)
 
 -- The most entries that a group of 4,096 bytes has beside its information table, and the room for their rows.

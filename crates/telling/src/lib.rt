@@ -63,7 +63,7 @@ pub fn tell_start(text: &mut [u8], size: u32, bytes: &[u8]) -> Said
     }
 }
 
-// A group is read: its lines, or its refusal.
+// A group is read: its lines, or that it is a repeat, or its refusal.
 fn tell_read(text: &mut [u8], reader: Reader, image: &[u8], number: u32, entries: u32) -> Said
     requires { ⌜ longestText ≤ length (now text) ⌝ }
     ensures { λ r. ⌜ Tells (readStep reader (now (image .entry)) number entries) (now (text .entry)) (now (text .exit)) r ⌝ }
@@ -75,6 +75,13 @@ fn tell_read(text: &mut [u8], reader: Reader, image: &[u8], number: u32, entries
             Said {
                 length,
                 then: Listed::On(next),
+            }
+        }
+        ReadAnswer::Repeated(state) => {
+            let length = lines::add_repeat(text, 0, number);
+            Said {
+                length,
+                then: Listed::On(state),
             }
         }
         ReadAnswer::Refused {

@@ -6,5 +6,6 @@ pub mod Writing
 pub mod Reading
 pub mod Settled
 pub mod Accepting
+pub mod Once
 pub mod Theorems
 pub mod Shown

@@ -1,17 +1,19 @@
--- A run that the reader accepts is accepted through the slices, and the rows that the reads leave hold the same numbers.
+-- A run that the reader accepts, or reads to its end among repeats, is read so through the slices, and the rows that the reads leave
+-- hold the same numbers.
 -- Assumes nothing.
 use mathlib.Core.Path.{_≡_, refl, sym, ap, _∙_, subst}
-use mathlib.Core.Bool.{true}
+use mathlib.Core.Bool.{Bool, true, false, _||_}
 use mathlib.Core.List.{List, [], _∷_}
 use Prim.Native.Nat.{ℕ, _*_, _/_, _≤_}
 use native.Mathlib.Omega.{arith}
+use lib.Dec.{leb}
 use lib.ListN.{length}
 use Rattle.numbers.proofs.InBytes.{length-in-bytes, length-numbers, numbers-put}
-use Rattle.numbers.specs.Numbers.{numbersIn, inBytes}
+use Rattle.numbers.specs.Numbers.{numberAt, numbersIn, bytesOf, inBytes}
 use Rattle.group.specs.declared.Phase.the-variants.{Free}
 use Rattle.group.specs.Sizes.{leastSize, standardSize, lastNumber}
 use Rattle.numbers.specs.Store.{put}
-use Rattle.numbers.proofs.Tests.{within}
+use Rattle.numbers.proofs.Tests.{within, and}
 use Rattle.group.proofs.StateLaws.{Run, started, sound-of-run}
 use Rattle.reader.proofs.GroupRows.{length-group-rows}
 use Rattle.reader.specs.declared.Reader.{Reader}
@@ -21,13 +23,15 @@ use Rattle.reader.specs.declared.ReadAnswer.the-variants as read
 use Rattle.reader.specs.Answer.{sound, readerStartCall, readCall, groupRows, rowsLeft}
 use Rattle.reader.proofs.Sound.{sound-again}
 use Rattle.layout.specs.Layout.{Image}
-use Rattle.layout.specs.Accepting.{Accepts, Lent, lentTo}
-use Rattle.reader.proofs.Accepted.{begun-at}
+use Rattle.layout.specs.Accepting.{Accepts, ToEnd, Lent, lentTo}
+use Rattle.reader.proofs.Accepted.{begun-at, repeated}
 use Rattle.slices.specs.Call.{Left, left, answerLength, lengthsKept, called}
 use Rattle.states.specs.States.{readerLength, readerOf, readerNumbers}
 use Rattle.c_reader.specs.Calls.{ddsReaderStart, ddsRead}
+use Rattle.c_reader.specs.Accepted.{repeatLeft}
+use Rattle.c_reader.proofs.Theorems.{read-repeated}
 use Rattle.states.proofs.StateLaws.{reader-of-bytes, meant-reader, sound-reader-fits}
-use Rattle.trip.specs.ThroughC.{Loan, LentC, numbersLent, AcceptsC}
+use Rattle.trip.specs.ThroughC.{Loan, LentC, numbersLent, AcceptsC, ToEndC}
 use Rattle.trip.proofs.SmallRows.{small-rows}
 
 -- The bytes of a reader's state.
@@ -55,13 +59,17 @@ pub starts-through : (size first : ℕ) (s : Reader) (state answer : List ℕ) �
 unfolding ddsReaderStart called
 starts-through size first s state answer e f g = rw (kept-lengths state answer f g, e, begun-at size first s e .1)
 
+or-true : (b : Bool) → b || true ≡ true
+or-true true = refl
+or-true false = refl
+
 pub sound-fresh : (size first : ℕ) (s : Reader) → readerStartCall size first ≡ start.Started s → sound s ≡ true
 sound-fresh size first s e =
     let b = begun-at size first s e in
     let l = within leastSize size standardSize (started size first (b .0) .0) in
     let n = within 1 first lastNumber (started size first (b .0) .1) in
     let run : Run size first Free 0 = record { least = l .0; most = l .1; some = n .0; number = omega arith; kept = refl } in
-    subst (λ (r : Reader). sound r ≡ true) (sym (b .1)) (sound-of-run size first Free 0 run)
+    subst (λ (r : Reader). sound r ≡ true) (sym (b .1)) (and (sound-of-run size first Free 0 run) (or-true (leb 2 first)))
 
 -- A read.
 read-through : (s t : Reader) (group : List ℕ) (number n : ℕ) (rows answer : List ℕ) → sound s ≡ true → length answer ≡ answerLength →
@@ -83,21 +91,33 @@ enough-lent (LentC.lent-more {g} {gs} {loan} h l r) =
     let long : 3 * g .entries ≤ length (numbersIn (loan .rows)) = omega (arith, length-numbers (loan .rows)) in
     Lent.lent-more long (enough-lent r)
 
-one-more : (s t : Reader) (g : Image) (loan : Loan) (old : List ℕ) {gs : List Image} {loans : List Loan} {rows : List (List ℕ)} {final : List ℕ} →
-    sound s ≡ true → 12 * g .entries ≤ length (loan .rows) → length (loan .answer) ≡ answerLength → old ≡ numbersIn (loan .rows) →
-    readCall s (g .bytes) (g .number) (g .entries) (length old) ≡ read.Accepted t → AcceptsC (slice t) gs loans rows final →
-    AcceptsC (slice s) (g ∷ gs) (loan ∷ loans) (rowsLeft (readCall s (g .bytes) (g .number) (g .entries) (length old)) (groupRows s (g .bytes) (g .entries)) old ∷ rows) final
-one-more s t g loan old {gs} {loans} {rows} {final} h long l same e a =
+-- A read that the reader accepts, made through the slices: what it leaves, and the numbers of its rows.
+record Made (s t : Reader) (g : Image) (loan : Loan) (old : List ℕ) : Type 0 where
+  left : List ℕ
+  reads : ddsRead (slice s) (g .bytes) (g .number) (g .entries) (loan .rows) (loan .answer) ≡ accepted t (left ∷ [])
+  row : numbersIn left ≡ rowsLeft (readCall s (g .bytes) (g .number) (g .entries) (length old)) (groupRows s (g .bytes) (g .entries)) old
+
+made : (s t : Reader) (g : Image) (loan : Loan) (old : List ℕ) → sound s ≡ true → 12 * g .entries ≤ length (loan .rows) → length (loan .answer) ≡ answerLength → old ≡ numbersIn (loan .rows) →
+    readCall s (g .bytes) (g .number) (g .entries) (length old) ≡ read.Accepted t → Made s t g loan old
+made s t g loan old h long l same e =
     let new : List ℕ = groupRows s (g .bytes) (g .entries) in
     let room : length old ≡ length (loan .rows) / 4 = ap length same ∙ length-numbers (loan .rows) in
     let f : readCall s (g .bytes) (g .number) (g .entries) (length (loan .rows) / 4) ≡ read.Accepted t = ap (readCall s (g .bytes) (g .number) (g .entries)) (sym room) ∙ e in
-    let d = read-through s t (g .bytes) (g .number) (g .entries) (loan .rows) (loan .answer) h l f in
     let small = small-rows s t (g .bytes) (g .number) (g .entries) (length old) e in
-    let left : numbersIn (put (loan .rows) 0 (inBytes new)) ≡ put (numbersIn (loan .rows)) 0 new =
+    let stored : numbersIn (put (loan .rows) 0 (inBytes new)) ≡ put (numbersIn (loan .rows)) 0 new =
     numbers-put (loan .rows) new small (omega (arith, length-group-rows s (g .bytes) (g .entries))) in
-    let row : numbersIn (put (loan .rows) 0 (inBytes new)) ≡ rowsLeft (readCall s (g .bytes) (g .number) (g .entries) (length old)) new old =
-    left ∙ ap (λ (k : List ℕ). put k 0 new) (sym same) ∙ sym (ap (λ (x : ReadAnswer). rowsLeft x new old) e) in
-    subst (λ (k : List ℕ). AcceptsC (slice s) (g ∷ gs) (loan ∷ loans) (k ∷ rows) final) row (AcceptsC.accepts-more d refl a)
+    record {
+      left = put (loan .rows) 0 (inBytes new);
+      reads = read-through s t (g .bytes) (g .number) (g .entries) (loan .rows) (loan .answer) h l f;
+      row = stored ∙ ap (λ (k : List ℕ). put k 0 new) (sym same) ∙ sym (ap (λ (x : ReadAnswer). rowsLeft x new old) e);
+    }
+
+one-more : {s t : Reader} {g : Image} {loan : Loan} {old : List ℕ} {gs : List Image} {loans : List Loan} {rows : List (List ℕ)} {final : List ℕ} →
+    Made s t g loan old → AcceptsC (slice t) gs loans rows final →
+    AcceptsC (slice s) (g ∷ gs) (loan ∷ loans) (rowsLeft (readCall s (g .bytes) (g .number) (g .entries) (length old)) (groupRows s (g .bytes) (g .entries)) old ∷ rows) final
+unfolding numberAt inBytes bytesOf
+one-more {s} {g = g} {loan = loan} {gs = gs} {loans = loans} {rows = rows} {final = final} m a =
+    subst (λ (k : List ℕ). AcceptsC (slice s) (g ∷ gs) (loan ∷ loans) (k ∷ rows) final) (m .row) (AcceptsC.accepts-more (m .reads) refl refl a)
 
 -- A whole run, by loans that have room for just the row numbers that the reads were lent.
 pub accepted-through : {s t : Reader} {run : List Image} {rows : List (List ℕ)} {loans : List Loan} (a : Accepts s run rows t) → sound s ≡ true → LentC run loans →
@@ -107,7 +127,48 @@ accepted-through Accepts.accepts-none h LentC.lent-none e = AcceptsC.accepts-non
 accepted-through (Accepts.accepts-more {s} {t} {u} {g} {gs} {rows} old e a) h (LentC.lent-more {loan = loan} {loans = loans} long l r) q =
     let same : old ≡ numbersIn (loan .rows) = cc in
     let rest : lentTo a ≡ numbersLent loans = cc in
-    one-more s t g loan old h long l same e (accepted-through a (sound-again s t (g .bytes) (g .number) (g .entries) (length old) e) r rest)
+    one-more (made s t g loan old h long l same e) (accepted-through a (sound-again s t (g .bytes) (g .number) (g .entries) (length old) e) r rest)
+
+-- The same of a run with repeats, which are answered whatever rows are lent.
+repeated-through : (s : Reader) (g : Image) (loan : Loan) (old : List ℕ) → sound s ≡ true → length (loan .answer) ≡ answerLength →
+    readCall s (g .bytes) (g .number) (g .entries) (length old) ≡ read.Repeated s →
+    ddsRead (slice s) (g .bytes) (g .number) (g .entries) (loan .rows) (loan .answer) ≡ repeatLeft (slice s) (loan .rows)
+repeated-through s g loan old h l e =
+    read-repeated (slice s) (g .bytes) (g .number) (g .entries) (loan .rows) (loan .answer)
+    (record {
+      kept = kept-lengths (slice s) (loan .answer) (long-slice s) l;
+      meant = meant-reader s;
+      repeat = rw (held-slice s h) (repeated s s (g .bytes) (g .number) (g .entries) (length old) e .0);
+    })
+
+more-to-end : {s t : Reader} {g : Image} {loan : Loan} {old : List ℕ} {gs : List Image} {loans : List Loan} {rows : List (List ℕ)} {final : List ℕ} →
+    Made s t g loan old → ToEndC (slice t) gs loans rows final →
+    ToEndC (slice s) (g ∷ gs) (loan ∷ loans) (rowsLeft (readCall s (g .bytes) (g .number) (g .entries) (length old)) (groupRows s (g .bytes) (g .entries)) old ∷ rows) final
+unfolding numberAt inBytes bytesOf
+more-to-end {s} {g = g} {loan = loan} {gs = gs} {loans = loans} {rows = rows} {final = final} m a =
+    subst (λ (k : List ℕ). ToEndC (slice s) (g ∷ gs) (loan ∷ loans) (k ∷ rows) final) (m .row) (ToEndC.end-more (m .reads) refl refl a)
+
+again-to-end : {state : List ℕ} {g : Image} {loan : Loan} {gs : List Image} {loans : List Loan} {rows : List (List ℕ)} {final : List ℕ} →
+    ddsRead state (g .bytes) (g .number) (g .entries) (loan .rows) (loan .answer) ≡ repeatLeft state (loan .rows) → ToEndC state gs loans rows final →
+    ToEndC state (g ∷ gs) (loan ∷ loans) rows final
+unfolding numberAt inBytes bytesOf
+again-to-end d a = ToEndC.end-repeat d refl refl a
+
+pub through-to-end : {s t : Reader} {run : List Image} {lent rows : List (List ℕ)} {loans : List Loan} → ToEnd s run lent rows t → sound s ≡ true → LentC run loans →
+    lent ≡ numbersLent loans → ToEndC (slice s) run loans rows (slice t)
+through-to-end ToEnd.end-none h LentC.lent-none e = ToEndC.end-none
+through-to-end (ToEnd.end-more {s} {t} {g = g} {lent = lent} old e a) h (LentC.lent-more {loan = loan} {loans = loans} long l r) q =
+    let same : old ≡ numbersIn (loan .rows) = cc in
+    let rest : lent ≡ numbersLent loans = cc in
+    more-to-end (made s t g loan old h long l same e) (through-to-end a (sound-again s t (g .bytes) (g .number) (g .entries) (length old) e) r rest)
+through-to-end (ToEnd.end-repeat {s} {g = g} {lent = lent} old e a) h (LentC.lent-more {loan = loan} {loans = loans} long l r) q =
+    let rest : lent ≡ numbersLent loans = cc in
+    again-to-end (repeated-through s g loan old h l e) (through-to-end a h r rest)
+
+pub sound-to-end : {s t : Reader} {run : List Image} {lent rows : List (List ℕ)} → ToEnd s run lent rows t → sound s ≡ true → sound t ≡ true
+sound-to-end ToEnd.end-none h = h
+sound-to-end (ToEnd.end-more {s} {t} {g = g} old e a) h = sound-to-end a (sound-again s t (g .bytes) (g .number) (g .entries) (length old) e)
+sound-to-end (ToEnd.end-repeat old e a) h = sound-to-end a h
 
 pub sound-end : {s t : Reader} {run : List Image} {rows : List (List ℕ)} → Accepts s run rows t → sound s ≡ true → sound t ≡ true
 sound-end Accepts.accepts-none h = h

@@ -1,6 +1,6 @@
 -- Writings from C by computation, so that the theorems do not speak of nothing: a record that spans two groups, with its total
 -- laid in a third; refused calls and slices of other lengths in between; and loans with which the run is read. And a run that is not
--- our writer's, read from C.
+-- our writer's, read from C, alone and with repeats.
 -- Assumes nothing.
 use Prim.Native.Nat.{ℕ}
 use native.Mathlib.Omega.{arith}
@@ -15,16 +15,19 @@ use Rattle.writer.specs.Calls.Call.{aRecord, aSeparator, anEnd}
 use Rattle.layout.specs.Items.Item.{recordItem, separatorItem}
 use Rattle.layout.specs.Items.Piece.{aTotal, aMiddle, aStart, aLast}
 use Rattle.layout.specs.Layout.{Image}
+use Rattle.layout.specs.Items.Each.{each-none, each-more}
+use Rattle.layout.specs.Repeats.{behind, withoutRepeats}
 use Rattle.layout.specs.Writing.{Account, blank, totalLaid, inHand, afterRecord, afterSeparator, noted, imageOf}
 use Rattle.layout.specs.BenchTable.{from}
 use Rattle.layout.proofs.Bench.{opens}
-use Rattle.layout.proofs.Shown.{groupOf, runOf, equalMiddles, middles-shown}
+use Rattle.layout.proofs.Shown.{opens as layoutOpens, groupOf, runOf, equalMiddles, middles-shown}
 use Rattle.slices.specs.Call.{lengthsKept, called}
 use Rattle.states.specs.States.{writerOf, writerMeant}
 use Rattle.c_writer.specs.Calls.{ddsWriterStart, written, ddsRecord, ddsSeparator, ddsEnd}
 use Rattle.trip.specs.ThroughC.{callC, recordC, endC, askedC, Loan, LentC, WroteC}
 use Rattle.trip.specs.ThroughC.WroteC.{begins, goes-on, closes, refused}
-use Rattle.trip.specs.Stated.{GivesBackC, AcceptedC, OutOfOrderC}
+use Rattle.trip.specs.Stated.{GivesBackC, AcceptedC, ReadToEndC, OutOfOrderC}
+use Rattle.trip.proofs.Once as once
 use Rattle.trip.proofs.Theorems.{c-returned, c-complete, c-exchanged}
 
 -- A writing from C of so many groups, and loans for reading them.
@@ -74,25 +77,46 @@ spanned =
     }
 
 -- .. and the reading of it.
-pub given-back : GivesBackC 64 1 (replicate 20 0xEE) (replicate 24 0xEE) (spanned .run) (spanned .loans)
+pub given-back : GivesBackC 64 1 (replicate 24 0xEE) (replicate 24 0xEE) (spanned .run) (spanned .loans)
     (record { finished = recordItem (from 1 45) ∷ separatorItem 1 ∷ []; begun = []; asked = [] })
-given-back = c-returned 64 1 (spanned .state) (spanned .group) (spanned .run) _ _ (spanned .wrote) (replicate 20 0xEE) (replicate 24 0xEE) (spanned .loans) refl refl (spanned .lent)
+given-back = c-returned 64 1 (spanned .state) (spanned .group) (spanned .run) _ _ (spanned .wrote) (replicate 24 0xEE) (replicate 24 0xEE) (spanned .loans) refl refl (spanned .lent)
 
 -- A run that our writer never lays: a record broken where there is room left, into two middles of one length, whatever their bytes;
 -- gap bytes of 7. It is read from C to its end ..
-pub foreign : (x y z w : ℕ) → AcceptedC 64 1 (replicate 20 0xEE) (replicate 24 0xEE) (runOf 1 99 (equalMiddles x y z w)) (loan 24 ∷ loan 24 ∷ loan 25 ∷ loan 36 ∷ [])
+pub foreign : (x y z w : ℕ) → AcceptedC 64 1 (replicate 24 0xEE) (replicate 24 0xEE) (runOf 1 99 (equalMiddles x y z w)) (loan 24 ∷ loan 24 ∷ loan 25 ∷ loan 36 ∷ [])
 unfolding groupOf runOf
 foreign x y z w =
-    c-complete 64 1 (replicate 20 0xEE) (replicate 24 0xEE) _ _ _ (loan 24 ∷ loan 24 ∷ loan 25 ∷ loan 36 ∷ []) (middles-shown x y z w .lays) refl refl
+    once.c-complete 64 1 (replicate 24 0xEE) (replicate 24 0xEE) _ _ _ (loan 24 ∷ loan 24 ∷ loan 25 ∷ loan 36 ∷ []) (middles-shown x y z w .lays) refl refl
     (LentC.lent-more (leb-true _ _ refl) refl
     (LentC.lent-more (leb-true _ _ refl) refl
     (LentC.lent-more (leb-true _ _ refl) refl
     (LentC.lent-more (leb-true _ _ refl) refl LentC.lent-none))))
 
 -- .. and with the two exchanged it is refused with 5, although its total matches.
-pub foreign-exchanged : (x y z w : ℕ) → OutOfOrderC 64 1 (replicate 20 0xEE) (replicate 24 0xEE) (groupOf 1 99 (aStart (1 ∷ []) ∷ []) ∷ []) (groupOf 3 95 (aMiddle (z ∷ w ∷ []) ∷ []))
+pub foreign-exchanged : (x y z w : ℕ) → OutOfOrderC 64 1 (replicate 24 0xEE) (replicate 24 0xEE) (groupOf 1 99 (aStart (1 ∷ []) ∷ []) ∷ []) (groupOf 3 95 (aMiddle (z ∷ w ∷ []) ∷ []))
     (groupOf 2 97 (aMiddle (x ∷ y ∷ []) ∷ []) ∷ groupOf 4 93 (aLast (4 ∷ []) ∷ aTotal 6 ∷ []) ∷ [])
 unfolding runOf
 foreign-exchanged x y z w =
-    c-exchanged 64 1 (replicate 20 0xEE) (replicate 24 0xEE) (groupOf 1 99 (aStart (1 ∷ []) ∷ []) ∷ []) [] (groupOf 4 93 (aLast (4 ∷ []) ∷ aTotal 6 ∷ []) ∷ [])
+    c-exchanged 64 1 (replicate 24 0xEE) (replicate 24 0xEE) (groupOf 1 99 (aStart (1 ∷ []) ∷ []) ∷ []) [] (groupOf 4 93 (aLast (4 ∷ []) ∷ aTotal 6 ∷ []) ∷ [])
     (groupOf 2 97 (aMiddle (x ∷ y ∷ []) ∷ [])) (groupOf 3 95 (aMiddle (z ∷ w ∷ []) ∷ [])) _ (foreign x y z w)
+
+-- The same run with its second group handed in three times: what comes again holds other bytes, has no entries and is lent no rows.
+abbrev again : Image
+again = record { number = 2; entries = 0; bytes = replicate 64 0xEE }
+
+abbrev handedIn : (x y z w : ℕ) → List Image
+handedIn x y z w =
+    groupOf 1 99 (aStart (1 ∷ []) ∷ []) ∷ groupOf 2 97 (aMiddle (x ∷ y ∷ []) ∷ []) ∷ again ∷ again ∷ groupOf 3 95 (aMiddle (z ∷ w ∷ []) ∷ [])
+    ∷ groupOf 4 93 (aLast (4 ∷ []) ∷ aTotal 6 ∷ []) ∷ []
+
+pub foreign-among : (x y z w : ℕ) → ReadToEndC 64 1 (replicate 24 0xEE) (replicate 24 0xEE) (handedIn x y z w) (loan 24 ∷ loan 24 ∷ loan 0 ∷ loan 0 ∷ loan 25 ∷ loan 36 ∷ [])
+unfolding layoutOpens groupOf runOf withoutRepeats behind
+foreign-among x y z w =
+    c-complete 64 1 (replicate 24 0xEE) (replicate 24 0xEE) _ _ (handedIn x y z w) (loan 24 ∷ loan 24 ∷ loan 0 ∷ loan 0 ∷ loan 25 ∷ loan 36 ∷ []) (middles-shown x y z w .lays)
+    (each-more refl (each-more refl (each-more refl (each-more refl (each-more refl (each-more refl each-none)))))) refl refl
+    (LentC.lent-more (leb-true _ _ refl) refl
+    (LentC.lent-more (leb-true _ _ refl) refl
+    (LentC.lent-more (leb-true _ _ refl) refl
+    (LentC.lent-more (leb-true _ _ refl) refl
+    (LentC.lent-more (leb-true _ _ refl) refl
+    (LentC.lent-more (leb-true _ _ refl) refl LentC.lent-none))))))

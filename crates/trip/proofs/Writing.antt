@@ -28,14 +28,14 @@ use Rattle.writer.proofs.Theorems.{sound-after, end-empties, sound-start}
 use Rattle.layout.specs.Layout.{Image}
 use Rattle.layout.specs.Writing.{Account, noted, AsAsked, imageOf, Wrote}
 use Rattle.answer.specs.Answer.{numbersTold, refusalTold, ifAccepted}
-use Rattle.slices.specs.Call.{Left, left, answerLength, lengthsKept, ofMeaning, called}
+use Rattle.slices.specs.Call.{Left, left, outcomeSeen, answerLength, lengthsKept, ofMeaning, called}
 use Rattle.slices.proofs.Calls.{let-through, leaves, c-answers, refused-leaves}
 use Rattle.states.specs.States.{writerLength, b4Number, writerOf, writerNumbers, writerBytes, writerMeant}
 use Rattle.c_writer.specs.Calls.{ddsWriterStart, written, writing, ddsRecord, ddsSeparator, ddsEnd, writerLeft, groupLeft}
 use Rattle.c_writer.specs.Accepted.{Accepts, CallAccepted}
 use Rattle.c_writer.proofs.Theorems.{record-returns-zero, separator-returns-zero, end-returns-zero}
 use Rattle.states.proofs.StateLaws.{writer-of-bytes, meant-writer, sound-writer-fits}
-use Rattle.trip.specs.ThroughC.{callC, CallC, recordC, separatorC, endC, askedC, phaseSeen, outcomeSeen, numberSeen, entriesSeen, finishedSeen, closedSeen, WroteC, WasEndedC}
+use Rattle.trip.specs.ThroughC.{callC, CallC, recordC, separatorC, endC, askedC, phaseSeen, numberSeen, entriesSeen, finishedSeen, closedSeen, WroteC, WasEndedC}
 use Rattle.trip.specs.Stated.{Written}
 use Rattle.trip.proofs.Told.{Tells, TellsStart, call-tells, start-tells}
 

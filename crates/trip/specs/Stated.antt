@@ -1,5 +1,5 @@
 -- What the theorems of this crate state: a writing from C as the writer's own, a run that is read back from C, a reading from C as
--- the reader's own, a run at a group's end, a run out of order, and the rows of one read.
+-- the reader's own, a run at a group's end, each also of a run with repeats, a run out of order, and the rows of one read.
 -- Assumes nothing.
 use Prim.Native.Nat.{ℕ, _*_}
 use mathlib.Core.List.{List, [], _∷_, _++_}
@@ -15,7 +15,8 @@ use Rattle.sound.specs.State.{writerSound}
 use Rattle.laying.specs.Laying.{desk}
 use Rattle.layout.specs.Items.{Item}
 use Rattle.layout.specs.Layout.{Image, Lays}
-use Rattle.layout.specs.Accepting.{Accepts, lentTo}
+use Rattle.layout.specs.Repeats.{withoutRepeats}
+use Rattle.layout.specs.Accepting.{Accepts, ToEnd, lentTo}
 use Rattle.layout.specs.Reading.{itemsRead, begunRead}
 use Rattle.layout.specs.Stated.{EndsWith}
 use Rattle.layout.specs.Writing.{Account, Wrote}
@@ -23,7 +24,7 @@ use Rattle.twice.specs.RowsAre.{RowsAre}
 use Rattle.slices.specs.Call.{left, answerLength}
 use Rattle.states.specs.States.{readerLength, readerOf, readerBytes, writerOf, writerNumbers}
 use Rattle.c_reader.specs.Calls.{ddsReaderStart, ddsRead, readerLeft}
-use Rattle.trip.specs.ThroughC.{phaseSeen, Loan, LentC, numbersLent, AcceptsC}
+use Rattle.trip.specs.ThroughC.{phaseSeen, Loan, LentC, numbersLent, AcceptsC, ToEndC}
 
 -- The state slice is the bytes of a sound state, and with that state the writer's own calls wrote the same.
 pub record Written (size first : ℕ) (state group : List ℕ) (run : List Image) (closed now : Account) : Type 0 where
@@ -90,6 +91,52 @@ pub record AtEndC (size first : ℕ) (state answer : List ℕ) (beginning rest :
   pub lays : Lays size first (itemsRead beginning (parts .before)) (begunRead beginning (parts .before)) beginning
   pub only : (i : List Item) (b : List ℕ) → Lays size first i b beginning → (i ≡ itemsRead beginning (parts .before)) × (b ≡ begunRead beginning (parts .before))
   pub ends : EndsWith size first beginning (parts .before) (begunRead beginning (parts .before)) (readerOf (parts .middle))
+
+-- A run that C reads to its end, repeats among its groups: the start returned 0, and from the state slice that it left every read did,
+-- lent just these slices.
+pub record ReadToEndC (size first : ℕ) (state answer : List ℕ) (run : List Image) (loans : List Loan) : Type 0 where
+  pub starts : ddsReaderStart size first state answer .refusal ≡ 0
+  pub rows : List (List ℕ)
+  pub final : List ℕ
+  pub reads : ToEndC (readerLeft (ddsReaderStart size first state answer)) run loans rows final
+
+-- The reader's own start and its own reads accept the same run to its end, as above, and answer the same repeats.
+pub record ReadsOwn (size first : ℕ) (run : List Image) (loans : List Loan) (rows : List (List ℕ)) (final : List ℕ) : Type 0 where
+  pub reader : Reader
+  pub starts : readerStartCall size first ≡ Started reader
+  pub last : Reader
+  pub reads : ToEnd reader run (numbersLent loans) rows last
+  pub sound : readerSound last ≡ true
+  pub bytes : readerBytes last ≡ final
+
+-- .. at the end of one of its groups or of a repeat.
+pub record SplitEndC (state : List ℕ) (beginning rest : List Image) (loans : List Loan) (rows : List (List ℕ)) (final : List ℕ) : Type 0 where
+  pub lent : List Loan
+  pub later : List Loan
+  pub before : List (List ℕ)
+  pub behind : List (List ℕ)
+  pub middle : List ℕ
+  pub loans-are : lent ++ later ≡ loans
+  pub rows-are : before ++ behind ≡ rows
+  pub reads : ToEndC state beginning lent before middle
+  pub goes-on : ToEndC middle rest later behind final
+
+-- .. and there what the rows of the beginning give is a lawful layout of it, its repeats taken out, and the only one.
+pub record AtEndAmongC (size first : ℕ) (state answer : List ℕ) (beginning rest : List Image) (loans : List Loan) (rows : List (List ℕ)) (final : List ℕ) : Type 0 where
+  pub parts : SplitEndC (readerLeft (ddsReaderStart size first state answer)) beginning rest loans rows final
+  pub lays : Lays size first (itemsRead (withoutRepeats beginning) (parts .before)) (begunRead (withoutRepeats beginning) (parts .before)) (withoutRepeats beginning)
+  pub only : (i : List Item) (b : List ℕ) → Lays size first i b (withoutRepeats beginning) →
+      (i ≡ itemsRead (withoutRepeats beginning) (parts .before)) × (b ≡ begunRead (withoutRepeats beginning) (parts .before))
+  pub ends : EndsWith size first (withoutRepeats beginning) (parts .before) (begunRead (withoutRepeats beginning) (parts .before)) (readerOf (parts .middle))
+
+-- A run that is handed in with repeats gives back an account: the start returns 0 and so does every read, lent just these slices; the
+-- numbers of the rows that the accepted reads leave give back the items finished and the bytes so far of the record that is not, with
+-- which the last state slice ends.
+pub record GivesBackAmongC (size first : ℕ) (state answer : List ℕ) (handed : List Image) (loans : List Loan) (a : Account) : Type 0 where
+  pub read : ReadToEndC size first state answer handed loans
+  pub items : itemsRead (withoutRepeats handed) (read .rows) ≡ a .finished
+  pub begun : begunRead (withoutRepeats handed) (read .rows) ≡ a .begun
+  pub ends : EndsWith size first (withoutRepeats handed) (read .rows) (a .begun) (readerOf (read .final))
 
 -- A run that is refused with 5 at its group h: the groups before it are accepted; after them, whatever rows are lent, the read of h
 -- returns 5 and tells 5 with place 0, and leaves the state and the rows; and the run as a whole is never accepted.

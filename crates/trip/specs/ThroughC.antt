@@ -14,7 +14,7 @@ use Rattle.writer.specs.Calls.{Call}
 use Rattle.writer.specs.Calls.Call.{aRecord, aSeparator, anEnd}
 use Rattle.layout.specs.Layout.{Image}
 use Rattle.layout.specs.Writing.{Account, blank, noted, AsAsked, IsEnd, withInformation, imageOf}
-use Rattle.slices.specs.Call.{Left, answerLength}
+use Rattle.slices.specs.Call.{Left, outcomeSeen, answerLength}
 use Rattle.states.specs.States.{phaseOf, b4Number, writerOf}
 use Rattle.c_reader.specs.Calls.{ddsRead, readerLeft, rowsRead}
 use Rattle.c_writer.specs.Calls.{ddsWriterStart, ddsRecord, ddsSeparator, ddsEnd, writerLeft, groupLeft}
@@ -40,10 +40,6 @@ askedC (endC warn) state group answer = ddsEnd state group warn answer
 abbrev pub phaseSeen : List ℕ → Phase
 phaseSeen state = phaseOf (field state 2)
 
--- The outcome in the answer slice: 0 where the call finished its work, 1 where it closed the group.
-abbrev pub outcomeSeen : Left → ℕ
-outcomeSeen o = numberAt 4 (o .answer) 8
-
 -- The closed group's number in the answer slice.
 abbrev pub numberSeen : Left → ℕ
 numberSeen o = numberAt 4 (o .answer) 12
@@ -65,7 +61,7 @@ abbrev pub closedSeen : Left → WriteAnswer
 closedSeen o = Closed (writerOf (writerLeft o)) (numberSeen o) (entriesSeen o) (takenSeen o)
 
 -- A writing from C: the state slice and the group as they are now, the run closed so far, the account at the last close, and
--- the account now. The state slice at the start and every answer slice may be any: one of another length than its own is
+-- the account now. The outcome is 0 where a call finished its work, 1 where it closed the group. The state slice at the start and every answer slice may be any: one of another length than its own is
 -- refused. A call that returned a number other than 0 leaves the account as it was, whatever its `warn` and whatever group it was
 -- lent. Between calls the firmware may change the group's last 32 bytes. After a close the next call may come with any buffer of the
 -- right length.
@@ -113,11 +109,24 @@ abbrev pub numbersLent : List Loan → List (List ℕ)
 numbersLent [] = []
 numbersLent (loan ∷ loans) = numbersIn (loan .rows) ∷ numbersLent loans
 
--- A reading from C, from a state slice over a run to a state slice: each read is lent its loan, returns 0, and leaves rows
--- whose numbers are listed.
+-- A reading from C, from a state slice over a run to a state slice: each read is lent its loan, returns 0 and tells outcome 0, and
+-- leaves rows whose numbers are listed.
 pub data AcceptsC : List ℕ → List Image → List Loan → List (List ℕ) → List ℕ → Type 0 where
   accepts-none : {state : List ℕ} → AcceptsC state [] [] [] state
   accepts-more : {state final : List ℕ} {g : Image} {gs : List Image} {loan : Loan} {loans : List Loan} {rows : List (List ℕ)} {o : Left} →
-      ddsRead state (g .bytes) (g .number) (g .entries) (loan .rows) (loan .answer) ≡ o → o .refusal ≡ 0 →
-      AcceptsC (readerLeft o) gs loans rows final →
+      ddsRead state (g .bytes) (g .number) (g .entries) (loan .rows) (loan .answer) ≡ o →
+      o .refusal ≡ 0 → outcomeSeen o ≡ 0 → AcceptsC (readerLeft o) gs loans rows final →
       AcceptsC state (g ∷ gs) (loan ∷ loans) (numbersIn (rowsRead o) ∷ rows) final
+
+-- A reading from C to a run's end, repeats among its groups: each read returns 0. Outcome 2 says that the group is a repeat: it is
+-- not counted as read, and its rows are not listed.
+pub data ToEndC : List ℕ → List Image → List Loan → List (List ℕ) → List ℕ → Type 0 where
+  end-none : {state : List ℕ} → ToEndC state [] [] [] state
+  end-more : {state final : List ℕ} {g : Image} {gs : List Image} {loan : Loan} {loans : List Loan} {rows : List (List ℕ)} {o : Left} →
+      ddsRead state (g .bytes) (g .number) (g .entries) (loan .rows) (loan .answer) ≡ o →
+      o .refusal ≡ 0 → outcomeSeen o ≡ 0 → ToEndC (readerLeft o) gs loans rows final →
+      ToEndC state (g ∷ gs) (loan ∷ loans) (numbersIn (rowsRead o) ∷ rows) final
+  end-repeat : {state final : List ℕ} {g : Image} {gs : List Image} {loan : Loan} {loans : List Loan} {rows : List (List ℕ)} {o : Left} →
+      ddsRead state (g .bytes) (g .number) (g .entries) (loan .rows) (loan .answer) ≡ o →
+      o .refusal ≡ 0 → outcomeSeen o ≡ 2 → ToEndC (readerLeft o) gs loans rows final →
+      ToEndC state (g ∷ gs) (loan ∷ loans) rows final

@@ -62,7 +62,7 @@ reader-start-order = ordered.reader-start-order
 pub writer-start-order : (size first : ℕ) → FirstBroken (startRules size first) (refusalTold (startTold (writerStartCall size first)))
 writer-start-order = ordered.writer-start-order
 
--- "Read 1, 4, 5, 6, 7, then entry by entry": so before its scan a read.
+-- "Read 1, 4, 5, 6, 7, then entry by entry": so before its scan a read, with a repeat "decided after 4, before 5".
 pub read-order : (s : Reader) (group : List ℕ) (number n room : ℕ) → BeforeScan s group number n room
 read-order = ordered.read-order
 

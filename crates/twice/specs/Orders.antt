@@ -43,8 +43,14 @@ callRules (anEnd warn) w =
     (1, writerSound (w .state)) ∷ (4, eqb (length (w .group)) (w .state .size)) ∷ (17, not (isInside (w .state .phase)))
     ∷ (14, not (isOwed (w .state .phase)) || leb (w .state .next) 65535) ∷ []
 
--- A read before its scan: where one of its rules is broken, it answers the first, place 0 and the state as given.
+-- 2026-05: "A group with the number of the last accepted group of this run", where there is one.
+abbrev pub lastAccepted : Reader → ℕ → Bool
+lastAccepted s number = s .accepted && eqb (number + 1) (s .next)
+
+-- A read before its scan: where one of its rules is broken, it answers the first, place 0 and the state as given. A repeat is
+-- "decided after 4, before 5": where 1 and 4 hold, and 5 would be broken, whatever n and the rows are.
 pub record BeforeScan (s : Reader) (group : List ℕ) (number n room : ℕ) : Type 0 where
   pub refusal : ℕ
   pub first : FirstBroken (readRules s (length group) number n room) refusal
-  pub answered : (refusal ≡ 0 → ⊥) → readCall s group number n room ≡ answer.Refused s refusal 0
+  pub repeated : refusal ≡ 5 → lastAccepted s number ≡ true → readCall s group number n room ≡ answer.Repeated s
+  pub answered : (refusal ≡ 0 → ⊥) → (refusal ≡ 5 → lastAccepted s number ≡ false) → readCall s group number n room ≡ answer.Refused s refusal 0

@@ -41,7 +41,7 @@ answers c =
     let m = o .before .before in
     read-done _ _ _ _ _ _ (kept (m .before .before .before)) _ _ (holds (m .before .reader-meant .ensures) (m .if2 .left)) (o .reader-of .ensures) (r .read-bytes .ensures) (f .finish .ensures .0) (f .finish .ensures .1)
 
--- An accepted reader has the size that the state has, and the number after the one that it has.
+-- An accepted reader has the size that the state has, the number after the one that it has, and says that a group was accepted.
 finish-requires : tie.Need-finish-requires
 unfolding readerOf
 finish-requires c κs =
@@ -49,10 +49,12 @@ finish-requires c κs =
     let s = r .before .before .reader-of in (
       long (r .before .before .before .before .before .before .before),
       λ reader e.
-          let left = accepted (s .result) reader _ _ _ _ (sym (r .read-bytes .ensures .answer) ∙ e) .left in (
-            ap (λ (t : Reader). t .size) left ∙ ap (λ (t : Reader). t .size) (s .ensures),
-            ap (λ (t : Reader). t .next) left ∙ ap (λ (t : Reader). t .next + 1) (s .ensures),
-          ),
+          let left = accepted (s .result) reader _ _ _ _ (sym (r .read-bytes .ensures .answer) ∙ e) .left in
+          record {
+            size = ap (λ (t : Reader). t .size) left ∙ ap (λ (t : Reader). t .size) (s .ensures);
+            next = ap (λ (t : Reader). t .next) left ∙ ap (λ (t : Reader). t .next + 1) (s .ensures);
+            accepted = ap (λ (t : Reader). t .accepted) left;
+          },
     )
 
 pub read-spec : {M : Type 1} → statement M

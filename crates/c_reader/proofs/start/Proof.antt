@@ -37,7 +37,7 @@ started c =
     let m = p .before .before .before in
     let s = m .before .before in
     let e = sym (s .start .ensures) ∙ m .start2 .given .1 in
-    calls.started _ _ _ (kept (s .before)) (ap (λ (a : ReaderStart). startTold a) e) (p .begin .ensures 3 (long (s .before) .0) ∙ ap (λ (r : Reader). inBytes (r .size ∷ r .next ∷ replicate 3 0)) (begun-at _ _ _ e .1)) (t .tell .ensures)
+    calls.started _ _ _ (kept (s .before)) (ap (λ (a : ReaderStart). startTold a) e) (p .begin .ensures 4 (long (s .before) .0) ∙ ap (λ (r : Reader). inBytes (r .size ∷ r .next ∷ replicate 4 0)) (begun-at _ _ _ e .1)) (t .tell .ensures)
 
 refused : tie.Need-returns-3
 unfolding ddsReaderStart

@@ -11,4 +11,5 @@ reader-of-spec =
     (tie.spec
     (λ c κs. search needs)
     (λ c κs. search needs)
-    (λ c. rw (c .before .run-of .ensures, c .number-at .ensures)))
+    (λ c κs. search needs)
+    (λ c. rw (c .before .before .run-of .ensures, c .before .number-at .ensures, c .number-at2 .ensures)))

@@ -5,7 +5,7 @@ use borrow.Author.Needs.{needs}
 use native.Mathlib.Omega.{arith}
 use lib.ListN.{length, replicate, length-replicate}
 use Rattle.telling.specs.Telling.{rowNumbers}
-use Rattle.telling.proofs.TellingLaws.{tells, tells-as, few-entries, read-on, read-off}
+use Rattle.telling.proofs.TellingLaws.{tells, tells-as, few-entries, read-on, read-again, read-off}
 use Rattle.telling.proofs.tell_read.Statement.{statement}
 use Rattle.telling.proofs.tell_read.Tie as tie
 
@@ -28,6 +28,11 @@ returns c =
 returns-2 : tie.Need-returns-2
 returns-2 c =
     let read = c .before .before .before .before .before .before .before .before .read in
+    tells (read-again _ _ _ _ _ _ _ room (read .ensures) _ (c .before .before .before .before .before .state .given .1)) (omega arith) (c .before .before .add-repeat .ensures) refl
+
+returns-3 : tie.Need-returns-3
+returns-3 c =
+    let read = c .before .before .before .before .before .before .before .before .read in
     tells-as (read-off _ _ _ _ _ _ _ room (read .ensures) _ _ _ (c .before .before .before .before .before .refusal .given .1)) (c .before .before .tell-refusal .ensures)
 
 pub tell-read-spec : {M : Type 1} → statement M
@@ -42,6 +47,10 @@ tell-read-spec =
     (λ c. search needs)
     (λ c κs. search needs)
     (λ c. search needs)
+    (λ c κs. search needs)
+    (λ c. search needs)
     returns
     (λ c. search needs)
-    returns-2)
+    returns-2
+    (λ c. search needs)
+    returns-3)

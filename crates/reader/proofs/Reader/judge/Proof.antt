@@ -10,7 +10,7 @@ use Rattle.entry.specs.declared.ScanEnd.{ScanEnd}
 use Rattle.reader.specs.declared.ReadAnswer.the-variants as answer
 use Rattle.entry.specs.Scan.{scan}
 use Rattle.reader.specs.Answer.{groupScan, answered, readCall}
-use Rattle.reader.proofs.Accepted.{Ready, ready, cut, begins, read-refused, read-scanned}
+use Rattle.reader.proofs.Accepted.{Ready, ready, is-repeat, not-repeat, never-repeat, five-means, cut, begins, read-repeated, read-refused, read-scanned}
 use Rattle.reader.proofs.Reader.judge.Statement.{statement}
 use Rattle.reader.proofs.Reader.judge.Tie as tie
 
@@ -35,7 +35,15 @@ judge-spec =
     tie.close
     (tie.spec
     (λ c κs. search needs)
-    (λ c. read-refused _ _ _ _ _ _ (c .before .refusal .ensures) (c .if1 .taken))
+    (λ c κs. search needs)
+    (λ c.
+    let t = c .before .before in
+    let f = five-means _ _ _ _ _ (sym (t .before .before .refusal .ensures) ∙ t .if2 .taken) in
+    read-repeated _ _ _ _ _ (is-repeat _ _ _ (f .0) (f .1) (sym (c .before .repeats .ensures) ∙ c .if3 .taken)))
+    (λ c.
+    let t = c .before .before in
+    read-refused _ _ _ _ _ _ (t .before .before .refusal .ensures) (t .before .if1 .taken) (not-repeat _ _ _ (sym (c .before .repeats .ensures) ∙ c .if3 .left)))
+    (λ c. read-refused _ _ _ _ _ _ (c .before .before .refusal .ensures) (c .before .if1 .taken) (never-repeat _ _ _ _ _ _ (c .before .before .refusal .ensures) (c .if2 .left)))
     (λ c κs. search needs)
     (λ c. let r = open-to (c .before) in omega (arith, r .long, r .run .most))
     (λ c κs. let r = open-to (c .before) in (rw (r .long) (cut r), rw (r .long, c .opening .ensures) (begins r)))

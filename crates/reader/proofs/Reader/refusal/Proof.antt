@@ -12,7 +12,7 @@ use Rattle.reader.proofs.Reader.refusal.Tie as tie
 
 -- What each test that is passed has shown.
 sound-is : (c : tie.Else1) → sound (c .before .before .args .self) ≡ true
-sound-is c = holds (c .before .run-sound .ensures) (c .if1 .left)
+sound-is c = holds (c .before .is-sound .ensures) (c .if1 .left)
 
 length-is : (c : tie.Else2) → lengthKept (c .before .before .before .before .args .self) (c .before .before .before .before .args .length) ≡ true
 length-is c = eq-eqb _ _ (c .if2 .left)
@@ -28,7 +28,7 @@ refusal-spec =
     tie.close
     (tie.spec
     (λ c κs. search needs)
-    (λ c. one _ _ _ _ _ (fails (c .before .run-sound .ensures) (c .if1 .taken)))
+    (λ c. one _ _ _ _ _ (fails (c .before .is-sound .ensures) (c .if1 .taken)))
     (λ c. search needs)
     (λ c. four _ _ _ _ _ (sound-is (c .before .before)) (ne-eqb _ _ (c .if2 .taken)))
     (λ c.
