@@ -1,9 +1,9 @@
 #!/usr/bin/env python3
-"""The run files of the lister, each with what the document says is printed of it. `cases.py` writes runs/NAME.run and
+"""The run files of the lister, each with what the documents say is printed of it. `cases.py` writes runs/NAME.run and
 runs/NAME.out.
 
-The text beside a case is worked out by hand from document 01, and the model must print the same. Where it is too long to
-write out (`MODEL`), the model gives it. The lister gives none.
+The text beside a case is worked out by hand from document 01 and the change requests, and the model must print the same.
+Where it is too long to write out (`MODEL`), the model gives it. The lister gives none.
 """
 import os
 import sys
@@ -340,6 +340,131 @@ case('a-thousand-groups', run(*[A if i % 3 else [entire(1 + i % 24), skip(63 - i
 case('a-record-over-a-thousand-groups', run(OPEN, *[[middle(24), skip(40)]] * 1022, [last(20), total(24572), skip(44)]), MODEL)
 
 
+# ---- Repeats: the number of the last accepted group. State and rows stay, contents and entry count are not examined. ----
+
+case('repeat-of-the-first-group', head([(1, 3), (1, 3)]) + image(A) * 2, '''
+    group 1 entries 3
+    entire 0 20
+    separator 20 0
+    skip 20 44
+    repeat 1
+    end free 0''')
+
+case('repeat-in-the-middle', head([(1, 3), (1, 3), (2, 3)]) + image(A) * 3, '''
+    group 1 entries 3
+    entire 0 20
+    separator 20 0
+    skip 20 44
+    repeat 1
+    group 2 entries 3
+    entire 0 20
+    separator 20 0
+    skip 20 44
+    end free 0''')
+
+case('repeats-in-a-row', head([(300, 1)] * 4 + [(301, 3)] * 3) + image([skip(64)]) * 4 + image(A) * 3, '''
+    group 300 entries 1
+    skip 0 64
+    repeat 300
+    repeat 300
+    repeat 300
+    group 301 entries 3
+    entire 0 20
+    separator 20 0
+    skip 20 44
+    repeat 301
+    repeat 301
+    end free 0''')
+
+case('repeat-of-65535', head([(65535, 1), (65535, 1)]) + image([skip(64)]) * 2, '''
+    group 65535 entries 1
+    skip 0 64
+    repeat 65535
+    end free 0''')
+
+case('repeat-with-other-contents', head([(1, 3), (1, 2), (2, 2)]) + image(A) + image(OPEN) + image([entire(3), skip(61)]), '''
+    group 1 entries 3
+    entire 0 20
+    separator 20 0
+    skip 20 44
+    repeat 1
+    group 2 entries 2
+    entire 0 3
+    skip 3 61
+    end free 0''')
+
+for name, n, contents in [
+    ('unknown-flags', 3, b'\xff' * 64), ('a-wrong-skip', 1, image([skip(63)])), ('entry-count-0', 0, image(A)),
+    ('entry-count-9', 9, image(A)), ('entry-count-65535', 65535, image(A))]:
+    case('repeat-with-' + name, head([(1, 3), (1, n), (2, 1)]) + image(A) + contents + image([skip(64)]), '''
+    group 1 entries 3
+    entire 0 20
+    separator 20 0
+    skip 20 44
+    repeat 1
+    group 2 entries 1
+    skip 0 64
+    end free 0''')
+
+case('repeat-of-a-start', head([(1, 2), (1, 2), (2, 3)]) + image(OPEN) * 2 + image(CLOSE), '''
+    group 1 entries 2
+    start 0 24
+    skip 24 40
+    repeat 1
+    group 2 entries 3
+    last 0 1
+    total 1 25
+    skip 1 63
+    end free 0''')
+
+for name, again in [('', [middle(24), skip(40)]), ('-with-another-count', [middle(10), skip(54)])]:
+    case('repeat-of-a-middle' + name, head([(1, 2), (2, 2), (2, 2), (3, 3)]) + image(OPEN) + image([middle(24), skip(40)]) + image(again)
+         + image([last(1), total(49), skip(63)]), '''
+    group 1 entries 2
+    start 0 24
+    skip 24 40
+    group 2 entries 2
+    middle 0 24
+    skip 24 40
+    repeat 2
+    group 3 entries 3
+    last 0 1
+    total 1 49
+    skip 1 63
+    end free 0''')
+
+case('repeat-with-a-total-owed', head([(1, 2), (2, 2), (2, 2), (3, 2)]) + image(OPEN) + image([last(21), skip(43)]) * 2
+     + image([total(45), skip(64)]), '''
+    group 1 entries 2
+    start 0 24
+    skip 24 40
+    group 2 entries 2
+    last 0 21
+    skip 21 43
+    repeat 2
+    group 3 entries 2
+    total 0 45
+    skip 0 64
+    end free 0''')
+
+case('repeat-then-inside-at-the-end', head([(1, 2), (1, 2)]) + image(OPEN) * 2, '''
+    group 1 entries 2
+    start 0 24
+    skip 24 40
+    repeat 1
+    end inside 24''')
+
+case('repeat-with-b4-set', head([(1, 2), (1, 2), (2, 1)]) + image([entire(3), skip(61)])
+     + image([warned(entire(3)), warned(skip(61))]) + image([skip(64)]), '''
+    group 1 entries 2
+    entire 0 3
+    skip 3 61
+    repeat 1
+    group 2 entries 1
+    skip 0 64
+    end free 0''')
+
+
 # ---- Refusal 3: the first number -------------------------------------------------------------------------------------
 
 case('refused-3', head([(0, 3)]) + image(A), 'refused 3 at 0')
@@ -349,14 +474,7 @@ case('refused-3-extra-bytes', head([(0, 3)]) + image(A) + b'more', 'refused 3 at
 case('refused-3-not-6', head([(0, 0)]), 'refused 3 at 0')
 
 
-# ---- Refusal 5: the number is not the next. The first pair's number starts the run, so a first group cannot break it. --
-
-case('refused-5-middle-repeated', head([(1, 3), (1, 3), (2, 3)]) + image(A) * 3, '''
-    group 1 entries 3
-    entire 0 20
-    separator 20 0
-    skip 20 44
-    refused 5 at 0''')
+# ---- Refusal 5: neither the next number nor a repeat. The first pair's number starts the run, so a first group cannot break it.
 
 case('refused-5-middle-left-out', head([(7, 1), (9, 1), (10, 1)]) + image([skip(64)]) * 3, '''
     group 7 entries 1
@@ -386,14 +504,23 @@ case('refused-5-after-65535-by-0', head([(65535, 1), (0, 1)]) + image([skip(64)]
     skip 0 64
     refused 5 at 0''')
 
-case('refused-5-after-65535-by-65535', head([(65535, 1), (65535, 1)]) + image([skip(64)]) * 2, '''
+case('refused-5-after-65535-by-1', head([(65535, 1), (1, 1)]) + image([skip(64)]) * 2, '''
     group 65535 entries 1
     skip 0 64
     refused 5 at 0''')
 
-case('refused-5-after-65535-by-1', head([(65535, 1), (1, 1)]) + image([skip(64)]) * 2, '''
+case('refused-5-after-65535-twice', head([(65534, 1), (65535, 1), (65535, 1), (65534, 1)]) + image([skip(64)]) * 4, '''
+    group 65534 entries 1
+    skip 0 64
     group 65535 entries 1
     skip 0 64
+    repeat 65535
+    refused 5 at 0''')
+
+case('refused-5-left-out-after-a-repeat', head([(7, 1), (7, 1), (9, 1)]) + image([skip(64)]) * 3, '''
+    group 7 entries 1
+    skip 0 64
+    repeat 7
     refused 5 at 0''')
 
 case('refused-5-not-6', head([(1, 1), (3, 0)]) + image([skip(64)]) * 2, '''
@@ -462,6 +589,13 @@ case('refused-9-at-an-edge-inside', run([warned(start(24)), warned(skip(40))], [
     group 1 entries 2
     start 0 24
     skip 24 40
+    refused 9 at 1''')
+case('refused-9-after-a-repeat-with-b4-clear', head([(1, 2), (1, 2), (2, 1)]) + image([entire(3), warned(skip(61))])
+     + image([entire(3), skip(61)]) + image([skip(64)]), '''
+    group 1 entries 2
+    entire 0 3
+    skip 3 61
+    repeat 1
     refused 9 at 1''')
 case('refused-9-in-the-second-group', run([warned(skip(64))], [warned(entire(2)), skip(62)]), '''
     group 1 entries 1
@@ -657,6 +791,16 @@ case('first-broken-entry-is-told', run([entire(1), separator(2), entry(0x43, 0),
 case('refused-and-images-missing', head([(1, 1), (2, 1)]) + image([skip(63)]), 'refused 13 at 1')
 case('refused-and-extra-bytes', run([skip(63)]) + b'more', 'refused 13 at 1')
 case('refused-and-lawful-groups-after', run([skip(63)], [skip(64)]), 'refused 13 at 1')
+case('refused-and-the-same-number-after', head([(1, 1), (1, 1)]) + image([skip(63)]) + image([skip(64)]), 'refused 13 at 1')
+case('refused-and-a-repeat-after', head([(1, 1), (2, 1), (1, 1)]) + image([skip(64)]) + image([skip(63)]) + image([skip(64)]), '''
+    group 1 entries 1
+    skip 0 64
+    refused 13 at 1''')
+case('refused-after-a-repeat', head([(1, 1), (1, 1), (2, 1)]) + image([skip(64)]) * 2 + image([skip(63)]), '''
+    group 1 entries 1
+    skip 0 64
+    repeat 1
+    refused 13 at 1''')
 
 
 # ---- Bad run files ---------------------------------------------------------------------------------------------------
@@ -714,6 +858,13 @@ case('bad-image-short-not-5', head([(1, 3), (9, 3)]) + image(A) + image(A)[:63],
     skip 20 44
     bad run file''')
 
+case('bad-image-short-not-a-repeat', head([(1, 3), (1, 3)]) + image(A) + image(A)[:63], '''
+    group 1 entries 3
+    entire 0 20
+    separator 20 0
+    skip 20 44
+    bad run file''')
+
 case('bad-image-short-not-8', head([(1, 1)]) + bytes(63), 'bad run file')
 
 case('bad-one-extra-byte', run(A) + b'\x00', '''
@@ -721,6 +872,14 @@ case('bad-one-extra-byte', run(A) + b'\x00', '''
     entire 0 20
     separator 20 0
     skip 20 44
+    bad run file''')
+
+case('bad-one-extra-byte-after-a-repeat', head([(1, 3), (1, 3)]) + image(A) * 2 + b'\x00', '''
+    group 1 entries 3
+    entire 0 20
+    separator 20 0
+    skip 20 44
+    repeat 1
     bad run file''')
 
 case('bad-extra-group', run(A, OPEN) + image(CLOSE), '''

@@ -1,4 +1,4 @@
-"""What the lister prints of a run, by document 01 alone: one function for each rule, in the document's words.
+"""What the lister prints of a run, by document 01 and the change requests alone: one function for each rule, in their words.
 
 It shares nothing with the crates, and is what `hold` compares the lister with. `moments` says at which byte of the input
 each piece of text is due.
@@ -122,9 +122,16 @@ class Reader:
         if not 1 <= first <= LAST_NUMBER:
             raise Refusal(3, 0)
         self.size, self.next, self.phase, self.sum, self.b4 = size, first, 'free', 0, False
+        self.last = None
+
+    def repeats(self, number):
+        """ "A group with the number of the last accepted group of this run"; before any was accepted there is none. """
+        return self.last is not None and number == self.last
 
     def read(self, image, number, n):
-        """The rows of a group that is accepted; a refusal leaves the state."""
+        """The rows of a group that is accepted, None of a repeat; a repeat and a refusal leave the state."""
+        if self.repeats(number):
+            return None
         if number != self.next or number > LAST_NUMBER:
             raise Refusal(5, 0)
         if n < 1 or 32 + 4 * n > self.size:
@@ -149,7 +156,7 @@ class Reader:
             rows.append((kind, offset, count))
             stand, b4, total = stand_after(stand, kind), bool(flag & B4), sum_after(total, kind, count)
             offset += count if kind in PARTS else 0
-        self.next, self.phase, self.sum, self.b4 = number + 1, leave(stand), total, b4
+        self.last, self.next, self.phase, self.sum, self.b4 = number, number + 1, leave(stand), total, b4
         return rows
 
 
@@ -199,6 +206,9 @@ def sections(source):
 
 
 def group_text(number, n, rows):
+    """ "The lister prints `repeat` and the number" of a group that has no rows to show, being a repeat. """
+    if rows is None:
+        return f'repeat {number}\n'.encode()
     lines = [f'group {number} entries {n}'] + [f'{kind} {offset} {count}' for kind, offset, count in rows]
     return ''.join(line + '\n' for line in lines).encode()
 
