@@ -12,7 +12,7 @@
 enum { TOTAL = 1, SEPARATOR, MIDDLE, START, LAST, ENTIRE, SKIP };
 enum { FREE, INSIDE, OWED, PARTED, ENDED }; /* the last two within a group: after a start or middle, after a last */
 enum { STANDARD = 126632, LONGEST = 16777215, NO_NUMBER = 65536 };
-enum { READER_LEN = 20, WRITER_LEN = 32, ANSWER_LEN = 24 };
+enum { READER_LEN = 24, WRITER_LEN = 32, ANSWER_LEN = 24 };
 
 /* a number from or to its four bytes, most significant first, moved as one word */
 static inline uint32_t turned(uint32_t n)
@@ -180,7 +180,7 @@ static void fill_rows(const uint8_t *group, uint32_t size, uint32_t n, uint8_t *
 uint32_t CALL(read)(uint8_t *state, size_t state_len, const uint8_t *group, size_t group_len, uint32_t number, uint32_t entries,
                     uint8_t *rows, size_t rows_len, uint8_t *answer, size_t answer_len)
 {
-    uint32_t size, next, place, refusal;
+    uint32_t size, next, accepted, place, refusal;
     carried c;
     if (state_len != READER_LEN || answer_len != ANSWER_LEN) return 1;
     size = load32(state);
@@ -188,9 +188,14 @@ uint32_t CALL(read)(uint8_t *state, size_t state_len, const uint8_t *group, size
     c.phase = load32(state + 8);
     c.sum = load32(state + 12);
     c.b4 = load32(state + 16);
-    if (c.b4 > 1 || !common_sound(size, next, c.phase, c.sum)) return refuse(answer, 1, 0);
+    accepted = load32(state + 20);
+    if (c.b4 > 1 || accepted > 1 || !common_sound(size, next, c.phase, c.sum)) return refuse(answer, 1, 0);
+    if (next == 1 && accepted) return refuse(answer, 1, 0);
     if (group_len != size) return refuse(answer, 4, 0);
-    if (number != next || number == NO_NUMBER) return refuse(answer, 5, 0);
+    if (number != next || number == NO_NUMBER) { /* a repeat is looked for here, where an accepted group does not come */
+        if (accepted && number + 1 == next) return answer_with(answer, 0, 0, 2, 0, 0, 0);
+        return refuse(answer, 5, 0);
+    }
     if (entries < 1 || entries > (size - 32) / 4) return refuse(answer, 6, 0);
     if (rows_len < 12 * (size_t)entries) return refuse(answer, 7, 0);
     refusal = judge(group, size, entries, &c, &place);
@@ -200,6 +205,7 @@ uint32_t CALL(read)(uint8_t *state, size_t state_len, const uint8_t *group, size
     store32(state + 8, c.phase);
     store32(state + 12, c.sum);
     store32(state + 16, c.b4);
+    store32(state + 20, 1);
     return refuse(answer, 0, 0);
 }
 

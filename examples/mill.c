@@ -1,5 +1,5 @@
 /* A feed mill's recipe library on a card of Basic Groups: written as one record across eleven groups, handed back and
-   read; then three troubles of the mill's old drives, each shown cured. The loops in write_record and read_group are
+   read; then four troubles of the mill's old drives, each shown cured. The loops in write_record and read_group are
    what a box's firmware does. Exits with 1 if anything is not as it says. */
 
 #include <stdio.h>
@@ -96,12 +96,16 @@ static void start_reader(reader *r, uint8_t *bytes, uint32_t most)
     must(dds_reader_start(SIZE, 1, r->state, DDS_READER_LEN, r->answer, DDS_ANSWER_LEN) == DDS_ACCEPTED, "a reader starts");
 }
 
-/* Reads one group and takes its data, row by row. A refused group leaves the reader as it was. */
+/* whether the group that was just handed in is the last accepted one once more */
+static int repeat(const reader *r) { return dds_number(r->answer, DDS_ANSWER_OUTCOME) == DDS_OUTCOME_REPEAT; }
+
+/* Reads one group and takes its data, row by row. A refused group leaves the reader as it was. So does a repeat: then the rows
+   are those of the group before it, and nothing is taken. */
 static uint32_t read_group(reader *r, const slot *s)
 {
     uint32_t k, refusal = dds_read(r->state, DDS_READER_LEN, s->image, SIZE, s->number, s->entries, r->rows, sizeof r->rows,
                                    r->answer, DDS_ANSWER_LEN);
-    if (refusal != DDS_ACCEPTED) return refusal;
+    if (refusal != DDS_ACCEPTED || repeat(r)) return refusal;
     for (k = 0; k < s->entries; k++) {
         const uint8_t *row = r->rows + k * DDS_ROW_LEN;
         uint32_t count = dds_number(row, DDS_ROW_COUNT);
@@ -257,7 +261,34 @@ static void total_not_lost(void)
     must(dds_number(r.rows, DDS_ROW_KIND) == DDS_KIND_TOTAL && r.total == length, "it begins with the total");
     must(phase(&r) == DDS_PHASE_FREE, "the record is finished");
     must(memcmp(recipes, found, length) == 0, "and the record is whole");
-    printf("  Group 3 begins with it: %u. The record is finished and whole.\n", (unsigned)r.total);
+    printf("  Group 3 begins with it: %u. The record is finished and whole.\n\n", (unsigned)r.total);
+}
+
+/* hands group 6 in once more: nothing of it is taken, and 7 is still the next */
+static void once_more(const slot *six)
+{
+    must(read_group(&r, six) == DDS_ACCEPTED && repeat(&r), "group 6 once more is a repeat");
+    must(r.length == 6 * PART && dds_number(r.state, DDS_STATE_NEXT) == 7, "nothing is taken, and 7 is still the next");
+}
+
+static void group_twice(void)
+{
+    uint32_t g;
+    other = library;
+    memset(other.slots[5].image, 0, SIZE);
+    other.slots[5].entries = 0;
+    printf("Trouble 4. A drive recorded group 6 twice. Some boxes took its data twice.\n");
+    start_reader(&r, found, LENGTH);
+    for (g = 0; g < 6; g++) must(read_group(&r, &library.slots[g]) == DDS_ACCEPTED && !repeat(&r), "groups 1 to 6 are read");
+    once_more(&library.slots[5]);
+    printf("  dds answers the second one with outcome %u, a repeat. Nothing of it is looked at, and no rows are used.\n",
+           (unsigned)DDS_OUTCOME_REPEAT);
+    once_more(&other.slots[5]);
+    printf("  It is a repeat even where it comes out as zeros.\n");
+    for (g = 6; g < 11; g++) must(read_group(&r, &library.slots[g]) == DDS_ACCEPTED && !repeat(&r), "groups 7 to 11 are read");
+    must(phase(&r) == DDS_PHASE_FREE && r.length == LENGTH && r.total == LENGTH, "the record is finished");
+    must(memcmp(recipes, found, LENGTH) == 0, "each recipe is the one that was written");
+    printf("  Group 7 is read next, and every recipe is right.\n");
 }
 
 int main(void)
@@ -267,5 +298,6 @@ int main(void)
     groups_exchanged();
     tables_read_alike();
     total_not_lost();
+    group_twice();
     return 0;
 }

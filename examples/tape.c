@@ -111,7 +111,7 @@ static int put_away(writer *w)
     uint8_t told[DDS_ANSWER_LEN];
     if (dds_number(answer, DDS_ANSWER_OUTCOME) != DDS_OUTCOME_CLOSED) return 0;
     must(dds_read(w->beside, DDS_READER_LEN, w->group, SIZE, number, entries, rows, sizeof rows, told, DDS_ANSWER_LEN)
-         == DDS_ACCEPTED, "what was written is read");
+         == DDS_ACCEPTED && dds_number(told, DDS_ANSWER_OUTCOME) == DDS_OUTCOME_FINISHED, "what was written is read");
     fill_information(w, number, entries);
     must(w->used < GROUPS, "the card has place");
     memcpy(card[w->used++], w->group, SIZE);
@@ -252,6 +252,7 @@ static void read_tape(void)
     for (g = 0; g < w.used; g++) {
         uint32_t entries = two(information(card[g]), TABLE_COUNT);
         must(read_group(state, card[g]) == DDS_ACCEPTED, "each group is accepted");
+        if (dds_number(answer, DDS_ANSWER_OUTCOME) == DDS_OUTCOME_REPEAT) continue;   /* the rows are not this group's */
         list(card[g], two(information(card[g]), GROUP_NUMBER), entries);
         for (k = 0; k < entries; k++) {
             const uint8_t *row = rows + k * DDS_ROW_LEN;

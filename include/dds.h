@@ -30,13 +30,13 @@ extern "C" {
 
 /* ---- Version
 
-   How many change requests have landed, then the last of them, as one decimal number: 6, and 2026-04. Each landing makes it
+   How many change requests have landed, then the last of them, as one decimal number: 7, and 2026-05. Each landing makes it
    greater, so it compares, also where a request of a lower number lands later. Header and archive of one build belong together.
 
    States are not kept across versions: in another a state may have other fields or another length. A run is ended before the
    change, or started anew after it. */
 
-#define DDS_VERSION 6202604u
+#define DDS_VERSION 7202605u
 
 /* ---- Sizes */
 
@@ -59,7 +59,7 @@ extern "C" {
 
 /* ---- Lengths of the lent slices */
 
-#define DDS_READER_LEN 20u             /* a reader's state */
+#define DDS_READER_LEN 24u             /* a reader's state */
 #define DDS_WRITER_LEN 32u             /* a writer's state */
 #define DDS_ANSWER_LEN 24u             /* the answer, the same for every call */
 #define DDS_ROW_LEN    12u             /* one row; a read of n entries needs n rows at least */
@@ -76,14 +76,15 @@ extern "C" {
 #define DDS_FIELDS_LEN 37u             /* its fields, all of it that is not reserved */
 #define DDS_ALERT_LEN  8u              /* Tape Alert flags 1 to 64 */
 
-/* ---- Fields of a state. Both begin with the same four. A reader has b4 behind them, a writer four numbers more. */
+/* ---- Fields of a state. Both begin with the same four. A reader has two numbers behind them, a writer four. */
 
 #define DDS_STATE_SIZE    0u           /* group size L */
 #define DDS_STATE_NEXT    4u           /* next number, 1 to 65,536; at 65,536 no number remains */
 #define DDS_STATE_PHASE   8u           /* DDS_PHASE_.. */
 #define DDS_STATE_SUM     12u          /* sum of the parts so far of an open record, or of one whose total is owed */
 
-#define DDS_READER_B4     16u          /* of a reader: b4, 0 clear, 1 set */
+#define DDS_READER_B4       16u        /* of a reader: b4, 0 clear, 1 set */
+#define DDS_READER_ACCEPTED 20u        /* 0: no group was accepted in this run; 1: one was, and the last has number next - 1 */
 
 #define DDS_STATE_DATA    16u          /* of a writer: data bytes in the open group */
 #define DDS_STATE_ENTRIES 20u          /* entries in the open group */
@@ -113,6 +114,7 @@ extern "C" {
 
 #define DDS_OUTCOME_FINISHED 0u        /* the work is done and no group was closed; number, entries and taken are 0 */
 #define DDS_OUTCOME_CLOSED   1u        /* a group was closed */
+#define DDS_OUTCOME_REPEAT   2u        /* dds_read: the last accepted group once more; nothing was read, and the rows stay */
 #define DDS_OUTCOME_BROKEN   1u        /* dds_third_check: some column breaks a rule; 0 where every one keeps both */
 #define DDS_OUTCOME_TYPE_A   0u        /* Volume Information: thickness 00 */
 #define DDS_OUTCOME_TYPE_B   1u        /* Volume Information: thickness 01 */
@@ -200,7 +202,7 @@ extern "C" {
 #define DDS_REFUSED_SIZE           2u  /* L outside 64 to 126,632: start */
 #define DDS_REFUSED_FIRST          3u  /* first number outside 1 to 65,535: start */
 #define DDS_REFUSED_GROUP          4u  /* group buffer length not L: read, record, separator, end */
-#define DDS_REFUSED_NUMBER         5u  /* number is not the next: read */
+#define DDS_REFUSED_NUMBER         5u  /* number is not the next, and the group no repeat: read */
 #define DDS_REFUSED_ENTRIES        6u  /* entry count 0, or 32 + 4n above L: read */
 #define DDS_REFUSED_ROWS           7u  /* row slice under 12n bytes: read */
 #define DDS_REFUSED_FLAG           8u  /* unknown flag: read, at an entry */
@@ -248,7 +250,7 @@ static inline uint32_t dds_number(const uint8_t *slice, size_t field)
    state   DDS_READER_LEN or DDS_WRITER_LEN bytes; what they hold does not matter
    answer  DDS_ANSWER_LEN bytes, as in every call
 
-   Accepted: the state is filled; it is free, with nothing read or laid and b4 clear. The answer is zeros.
+   Accepted: the state is filled; it is free, with nothing read or laid, no group accepted and b4 clear. The answer is zeros.
    Refused: the state slice stays as it was.
    Refusals in order: 1 by length, 2, 3. */
 
@@ -260,20 +262,38 @@ uint32_t dds_writer_start(uint32_t size, uint32_t first, uint8_t *state, size_t 
 
 /* ---- Reading
 
-   Reads one group.
+   Reads one group. A drive may have recorded it several times: the first instance is read, and the others are repeats.
    state    DDS_READER_LEN bytes, as the start or the last read left them
    group    L bytes; of them only the table of entries is looked at, not the data, the gap or the last 32 bytes
    number   the group's number and
    entries  its entry count, as the firmware found them in the last 32 bytes
    rows     DDS_ROW_LEN bytes for each entry at least; DDS_ROWS_LEN(L) are enough for every group
 
-   Accepted: the first DDS_ROW_LEN * entries bytes of rows are filled, the bytes after them stay, and the state moves on to the
-   next group, with b4 as the group's last entry has it. The answer is zeros. Rows of kinds 3 to 6 say where bytes of a record
-   stand: `count` bytes of the group from `offset` on.
+   Where it returns DDS_ACCEPTED there are two outcomes. Look at the outcome before the rows are used.
+   DDS_OUTCOME_FINISHED: the group is accepted. The first DDS_ROW_LEN * entries bytes of rows are filled, the bytes after them
+   stay, and the state moves on to the next group, with b4 as the group's last entry has it. The answer is zeros. Rows of kinds 3
+   to 6 say where bytes of a record stand: `count` bytes of the group from `offset` on.
+   DDS_OUTCOME_REPEAT: the group has the number of the last one that was accepted in this run. State and rows stay as they were.
+   So the rows are not this group's: do not use them, and go on to the next group. Only the group's length and number are looked
+   at, and not its bytes, the entry count or the rows. There may be any number of repeats, one behind the other, behind a refused
+   group and behind group 65,535. Before any group has been accepted in the run there is none.
    Refused: state and rows stay as they were; the answer says the number and, for 8 to 13 and 19 to 22, the entry. The same
    state may then be tried on another group.
-   Refusals in order: 1, 4, 5, 6, 7; then entry by entry from 1, and at one entry 8, 9, 10, one of 19 to 22, 12, 13. The first
-   entry that breaks a rule is the one told. b4 goes on from group to group: where the state has it set, entry 1 is 9 without it.
+   Refusals in order: 1, 4; here a repeat is told; 5, 6, 7; then entry by entry from 1, and at one entry 8, 9, 10, one of 19 to
+   22, 12, 13. The first entry that breaks a rule is the one told. b4 goes on from group to group: where the state has it set,
+   entry 1 is 9 without it.
+
+   So a run is read by
+
+       while (fetch(group, &number, &entries)) {
+           if (dds_read(state, DDS_READER_LEN, group, L, number, entries, rows, rows_len, answer, DDS_ANSWER_LEN)
+               != DDS_ACCEPTED) return;
+           if (dds_number(answer, DDS_ANSWER_OUTCOME) == DDS_OUTCOME_REPEAT) continue;
+           use(group, rows, entries);
+       }
+
+   The trap is a loop that does not look at the outcome. At a repeat the rows are those of the group before it, and its data would
+   be used a second time.
 
    At the run's end look at the phase. DDS_PHASE_FREE: every record is finished. DDS_PHASE_INSIDE or DDS_PHASE_OWED: the run ends
    in a record that is broken off, of which DDS_STATE_SUM bytes were read. No call says so by itself. */
@@ -325,7 +345,8 @@ uint32_t dds_read(uint8_t *state, size_t state_len, const uint8_t *group, size_t
    then, as long as every group closed since can be taken back; their numbers are given again. Otherwise write nothing more to
    this run. Separator and end are refused with 17 now, and a reader accepts the groups that were put away and ends inside: the
    record is broken off. What a writer started anew puts behind them is another run. The reader that is inside refuses its first
-   group with 5, or with 10 at entry 1 where the number is the next; a reader started at that number reads it.
+   group with 5, or with 10 at entry 1 where the number is the next; where it has the number of the last accepted group, it is
+   taken for a repeat. A reader started at that number reads it.
 
    Refusals in order: 1, 4, 14, 15, 16. */
 uint32_t dds_record(uint8_t *state, size_t state_len, uint8_t *group, size_t group_len, const uint8_t *data,

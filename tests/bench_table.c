@@ -1,5 +1,6 @@
 /* The bench table of document 01, P1 to P12, and the case that is run only. Each closed group is compared whole, handed
-   to a reader, and its rows and the state it leaves are compared. L = 64, from fresh, number 1, in buffers of zeros. */
+   to a reader, and its rows and the state it leaves are compared; handed in a second time it is a repeat. L = 64, from fresh,
+   number 1, in buffers of zeros. */
 
 #include "groups.h"
 
@@ -23,7 +24,7 @@ static run fresh(const char *name, uint32_t size)
 static void done(run *b, uint32_t next)
 {
     writer_is(&b->w, b->name, b->size, next, 0, 0, 0, 0, 0, 0);
-    reader_is(&b->r, b->name, b->size, next, 0, 0);
+    if (next == 1) reader_is_fresh(&b->r, b->name, b->size, 1); else reader_is(&b->r, b->name, b->size, next, 0, 0);
     leave(&b->w);
     leave(&b->r);
 }
@@ -42,6 +43,8 @@ static void takes(run *b, uint32_t number, uint32_t taken, const char *group, ui
     finished(&b->r, b->name);
     reader_is(&b->r, b->name, b->size, number + 1, phase, sum);
     for (i = 0; i < n; i++) check(get(b->r.of[ROWS].at + 4 * i) == rows[i], b->name, "row");
+    reads(&b->r, number, entries);
+    repeated(&b->r, b->name);
 }
 
 static void ends_run(run *b, int closes)

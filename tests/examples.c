@@ -136,9 +136,17 @@ static void of_long_lengths(const example *e, const worked *w, uint8_t *promised
 }
 
 /* ---- Fences: no byte outside a slice is read or written, and none of a const slice is written, or of any slice but the answer
-   where the call is refused, or of the answer too where its length is wrong: such slices stand in read-only pages */
+   where the call is refused or a group is a repeat, or of the answer too where its length is wrong: such slices stand in
+   read-only pages */
 
-static void fence_in(const example *e, const worked *w, int at_end, int refused, span *spans)
+/* whether the answer alone is written */
+static int answers_alone(const example *e, const worked *w)
+{
+    const uint8_t *answer = w->after[ANSWER];
+    return get(answer) != 0 || (e->call == READ && get(answer + DDS_ANSWER_OUTCOME) == DDS_OUTCOME_REPEAT);
+}
+
+static void fence_in(const example *e, const worked *w, int at_end, int alone, span *spans)
 {
     const lent_slice *s;
     for (s = calls[e->call].slices; s->which; s++) {
@@ -146,7 +154,7 @@ static void fence_in(const example *e, const worked *w, int at_end, int refused,
         one->len = w->len[s->which];
         one->at = fenced(one->len, at_end);
         memcpy(one->at, w->before[s->which], one->len);
-        if (s->written == CONST || (refused && s->which != ANSWER)) read_only(one->at, one->len);
+        if (s->written == CONST || (alone && s->which != ANSWER)) read_only(one->at, one->len);
     }
 }
 
@@ -163,7 +171,7 @@ static void in_fences(const example *e, const worked *w)
     calling = call->name;
     for (at_end = 0; at_end < 2; at_end++) {
         span spans[SLICES];
-        fence_in(e, w, at_end, get(w->after[ANSWER]) != 0, spans);
+        fence_in(e, w, at_end, answers_alone(e, w), spans);
         stands(e, w, spans, call->library(e->numbers, spans), "in fences");
         fence_out(e, spans);
         fence_in(e, w, at_end, 1, spans);

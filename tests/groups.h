@@ -10,7 +10,8 @@
 
 /* ---- States */
 
-static inline void put_reader(uint8_t *state, uint32_t size, uint32_t next, uint32_t phase, uint32_t sum, uint32_t b4)
+static inline void put_reader(uint8_t *state, uint32_t size, uint32_t next, uint32_t phase, uint32_t sum, uint32_t b4,
+                              uint32_t accepted)
 {
     memset(state, 0, DDS_READER_LEN);
     put(state + DDS_STATE_SIZE, size);
@@ -18,6 +19,7 @@ static inline void put_reader(uint8_t *state, uint32_t size, uint32_t next, uint
     put(state + DDS_STATE_PHASE, phase);
     put(state + DDS_STATE_SUM, sum);
     put(state + DDS_READER_B4, b4);
+    put(state + DDS_READER_ACCEPTED, accepted);
 }
 
 static inline void put_writer(uint8_t *state, uint32_t size, uint32_t next, uint32_t phase, uint32_t sum, uint32_t data,
@@ -34,13 +36,19 @@ static inline void put_writer(uint8_t *state, uint32_t size, uint32_t next, uint
     put(state + DDS_STATE_REST, rest);
 }
 
-/* a desk to read at, with this b4 or with b4 clear, or to write at, with a group of the state's size */
-static inline desk reader_b4(uint32_t size, uint32_t next, uint32_t phase, uint32_t sum, uint32_t b4)
+/* a desk to read at or to write at, with a group of the state's size. A reader's b4 is clear and no group was accepted, unless
+   they are given. */
+static inline desk reader_with(uint32_t size, uint32_t next, uint32_t phase, uint32_t sum, uint32_t b4, uint32_t accepted)
 {
     desk d = desk_for(READ);
     relend(&d.of[GROUP], size < 200000 ? size : 64);
-    put_reader(d.of[STATE].at, size, next, phase, sum, b4);
+    put_reader(d.of[STATE].at, size, next, phase, sum, b4, accepted);
     return d;
+}
+
+static inline desk reader_b4(uint32_t size, uint32_t next, uint32_t phase, uint32_t sum, uint32_t b4)
+{
+    return reader_with(size, next, phase, sum, b4, 0);
 }
 
 static inline desk reader(uint32_t size, uint32_t next, uint32_t phase, uint32_t sum)
@@ -57,17 +65,26 @@ static inline desk writer(uint32_t size, uint32_t next, uint32_t phase, uint32_t
     return d;
 }
 
+/* the state that an accepted group leaves */
 static inline void reader_b4_is(const desk *d, const char *name, uint32_t size, uint32_t next, uint32_t phase, uint32_t sum,
                                 uint32_t b4)
 {
     uint8_t wanted[DDS_READER_LEN];
-    put_reader(wanted, size, next, phase, sum, b4);
+    put_reader(wanted, size, next, phase, sum, b4, 1);
     check(same_bytes(wanted, sizeof wanted, d->of[STATE].at, d->of[STATE].len), name, "state");
 }
 
 static inline void reader_is(const desk *d, const char *name, uint32_t size, uint32_t next, uint32_t phase, uint32_t sum)
 {
     reader_b4_is(d, name, size, next, phase, sum, 0);
+}
+
+/* the state that a start leaves: no group was accepted yet */
+static inline void reader_is_fresh(const desk *d, const char *name, uint32_t size, uint32_t first)
+{
+    uint8_t wanted[DDS_READER_LEN];
+    put_reader(wanted, size, first, 0, 0, 0, 0);
+    check(same_bytes(wanted, sizeof wanted, d->of[STATE].at, d->of[STATE].len), name, "state");
 }
 
 static inline void writer_is(const desk *d, const char *name, uint32_t size, uint32_t next, uint32_t phase, uint32_t sum,
@@ -104,7 +121,7 @@ static inline void table(desk *d, uint32_t n, const uint32_t *entries)
 }
 #define LIST(...) (uint32_t)(sizeof (uint32_t[]){ __VA_ARGS__ } / 4), (uint32_t[]){ __VA_ARGS__ }
 
-/* ---- The calls, and what a writing call answers */
+/* ---- The calls, and what they answer */
 
 static inline void reader_starts(desk *d, uint32_t size, uint32_t first) { make(d, READER_START, size, first, 0); }
 static inline void writer_starts(desk *d, uint32_t size, uint32_t first) { make(d, WRITER_START, size, first, 0); }
@@ -114,6 +131,13 @@ static inline void separates(desk *d, uint32_t value, uint32_t warn) { make(d, S
 static inline void ends(desk *d, uint32_t warn) { make(d, END, warn, 0, 0); }
 
 static inline void finished(const desk *d, const char *name) { answer_is(d, name, 0, 0, DDS_OUTCOME_FINISHED, 0, 0, 0); }
+
+/* told that the group is a repeat, and nothing else written */
+static inline void repeated(const desk *d, const char *name)
+{
+    answer_is(d, name, 0, 0, DDS_OUTCOME_REPEAT, 0, 0, 0);
+    answered_alone(d, name);
+}
 
 static inline void closed(const desk *d, const char *name, uint32_t number, uint32_t entries, uint32_t taken)
 {

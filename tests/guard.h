@@ -245,13 +245,18 @@ static inline int answer_is(const desk *d, const char *name, uint32_t refusal, u
 
 static inline void accepted(const desk *d, const char *name) { answer_is(d, name, 0, 0, 0, 0, 0, 0); }
 
+static inline void answered_alone(const desk *d, const char *name)
+{
+    int i;
+    for (i = 0; i < SLICES; i++)
+        if (i != ANSWER && d->of[i].base) check(kept(&d->of[i]), name, "the answer alone is written");
+}
+
 /* a refusal with its answer, and nothing else written */
 static inline void refused(const desk *d, const char *name, uint32_t refusal, uint32_t place)
 {
-    int i;
     answer_is(d, name, refusal, place, 0, 0, 0, 0);
-    for (i = 0; i < SLICES; i++)
-        if (i != ANSWER && d->of[i].base) check(kept(&d->of[i]), name, "a refusal writes the answer alone");
+    answered_alone(d, name);
 }
 
 /* refusal 1 by length: nothing written at all */

@@ -1,6 +1,6 @@
 /* The header alone, included first and twice, as C99 and as C++: its constants are the numbers of documents 01 and 02 and the
-   fields and lengths of docs/C-INTERFACE.md, its prototypes link, and the library goes by its flags, limits and Pack IDs. Also
-   what it says of an offer: only the bytes taken are read. */
+   fields and lengths of docs/C-INTERFACE.md, its prototypes link, and the library goes by its flags, limits, Pack IDs and by what
+   it says of a repeat. Also what it says of an offer: only the bytes taken are read. */
 
 #define _DEFAULT_SOURCE /* mmap */
 
@@ -15,16 +15,18 @@ static const struct { const char *name; uint32_t found, wanted; } constants[] = 
 #define IS(name, wanted) { #name, name, wanted },
     IS(DDS_SIZE_LEAST, 64) IS(DDS_SIZE_STANDARD, 126632) IS(DDS_NUMBER_LEAST, 1) IS(DDS_NUMBER_MOST, 65535)
     IS(DDS_RECORD_MOST, 16777215) IS(DDS_INFORMATION_LEN, 32) IS(DDS_ENTRY_LEN, 4)
-    IS(DDS_VERSION, 6202604) IS(DDS_PART_INDEX_LEN, 40)
+    IS(DDS_VERSION, 7202605) IS(DDS_PART_INDEX_LEN, 40)
     IS(DDS_PART_MOST(64), 24) IS(DDS_PART_MOST(126632), 126592)
     IS(DDS_ENTRIES_MOST(64), 8) IS(DDS_ENTRIES_MOST(67), 8) IS(DDS_ENTRIES_MOST(68), 9) IS(DDS_ENTRIES_MOST(126632), 31650)
     IS(DDS_ROWS_LEN(64), 96) IS(DDS_ROWS_LEN(128 >> 1), 96) IS(DDS_PART_MOST(128 >> 1) / 2, 12) IS(DDS_ROWS_LEN(126632), 379800)
-    IS(DDS_READER_LEN, 20) IS(DDS_WRITER_LEN, 32) IS(DDS_ANSWER_LEN, 24) IS(DDS_ROW_LEN, 12)
-    IS(DDS_STATE_SIZE, 0) IS(DDS_STATE_NEXT, 4) IS(DDS_STATE_PHASE, 8) IS(DDS_STATE_SUM, 12) IS(DDS_READER_B4, 16)
+    IS(DDS_READER_LEN, 24) IS(DDS_WRITER_LEN, 32) IS(DDS_ANSWER_LEN, 24) IS(DDS_ROW_LEN, 12)
+    IS(DDS_STATE_SIZE, 0) IS(DDS_STATE_NEXT, 4) IS(DDS_STATE_PHASE, 8) IS(DDS_STATE_SUM, 12)
+    IS(DDS_READER_B4, 16) IS(DDS_READER_ACCEPTED, 20)
     IS(DDS_STATE_DATA, 16) IS(DDS_STATE_ENTRIES, 20) IS(DDS_STATE_B4, 24) IS(DDS_STATE_REST, 28)
     IS(DDS_PHASE_FREE, 0) IS(DDS_PHASE_INSIDE, 1) IS(DDS_PHASE_OWED, 2)
     IS(DDS_ANSWER_REFUSAL, 0) IS(DDS_ANSWER_PLACE, 4) IS(DDS_ANSWER_OUTCOME, 8) IS(DDS_ANSWER_NUMBER, 12)
     IS(DDS_ANSWER_ENTRIES, 16) IS(DDS_ANSWER_TAKEN, 20) IS(DDS_OUTCOME_FINISHED, 0) IS(DDS_OUTCOME_CLOSED, 1)
+    IS(DDS_OUTCOME_REPEAT, 2)
     IS(DDS_ROW_KIND, 0) IS(DDS_ROW_OFFSET, 4) IS(DDS_ROW_COUNT, 8)
     IS(DDS_KIND_TOTAL, 1) IS(DDS_KIND_SEPARATOR, 2) IS(DDS_KIND_MIDDLE, 3) IS(DDS_KIND_START, 4) IS(DDS_KIND_LAST, 5)
     IS(DDS_KIND_ENTIRE, 6) IS(DDS_KIND_SKIP, 7)
@@ -162,6 +164,19 @@ static void limits_of_reading(void)
     check(reads(state, n, DDS_ROWS_LEN(64)) == DDS_ACCEPTED, "the most entries are read, with just their rows");
 }
 
+/* a group handed in twice: the state says that one was accepted, and the answer that this is a repeat */
+static void repeats_are_told(void)
+{
+    uint8_t state[DDS_READER_LEN];
+    check(dds_reader_start(64, 1, state, DDS_READER_LEN, answer, DDS_ANSWER_LEN) == DDS_ACCEPTED
+          && dds_number(state, DDS_READER_ACCEPTED) == 0, "at a start no group was accepted");
+    entry(1, DDS_FLAG_SKIP, 64);
+    check(reads(state, 1, sizeof rows) == DDS_ACCEPTED && outcome() == DDS_OUTCOME_FINISHED
+          && dds_number(state, DDS_READER_ACCEPTED) == 1 && dds_number(state, DDS_STATE_NEXT) == 2, "one was");
+    check(reads(state, 1, sizeof rows) == DDS_ACCEPTED && outcome() == DDS_OUTCOME_REPEAT
+          && dds_number(state, DDS_READER_ACCEPTED) == 1 && dds_number(state, DDS_STATE_NEXT) == 2, "it is a repeat");
+}
+
 /* a part that fills its group, and both separators as they are laid */
 static void limits_of_writing(void)
 {
@@ -257,6 +272,7 @@ int main(void)
     reads_numbers();
     flags_are_kinds();
     limits_of_reading();
+    repeats_are_told();
     limits_of_writing();
     packs_are_allowed();
     reads_what_it_takes();

@@ -88,7 +88,7 @@ static num sum_after(num sum, num kind, num count)
 /* ---- The states */
 
 typedef struct { num size, next, phase, sum; } run; /* what both begin with */
-typedef struct { run r; num b4; } reader;
+typedef struct { run r; num b4, accepted; } reader;
 typedef struct { run r; num d, e, b4, rest; } writer;
 
 static int sum_sound(num phase, num sum)
@@ -106,9 +106,13 @@ static int run_sound(const run *r)
     return size_in_range(r->size) && r->next >= 1 && r->next <= LAST_NUMBER + 1 && sum_sound(r->phase, r->sum);
 }
 
+/* document 02, request 2026-05: a state with next number 1 that says a group was accepted is not sound */
 static int reader_sound(const reader *r)
 {
-    return run_sound(&r->r) && r->b4 <= 1;
+    if (!run_sound(&r->r)) return 0;
+    if (r->b4 > 1 || r->accepted > 1) return 0;
+    if (r->r.next == 1 && r->accepted) return 0;
+    return 1;
 }
 
 static int writer_sound(const writer *w)
@@ -151,13 +155,13 @@ static void put_run(uint8_t *s, const run *r)
 static reader get_reader(const uint8_t *s)
 {
     reader r;
-    r.r = get_run(s); r.b4 = get(s + 16);
+    r.r = get_run(s); r.b4 = get(s + 16); r.accepted = get(s + 20);
     return r;
 }
 
 static void put_reader(uint8_t *s, const reader *r)
 {
-    put_run(s, &r->r); put(s + 16, r->b4);
+    put_run(s, &r->r); put(s + 16, r->b4); put(s + 20, r->accepted);
 }
 
 static writer get_writer(const uint8_t *s)
@@ -181,6 +185,7 @@ static uint32_t answers(uint8_t *answer, num refusal, num place, num outcome, nu
 
 static uint32_t refused(uint8_t *answer, num refusal, num place) { return answers(answer, refusal, place, 0, 0, 0, 0); }
 static uint32_t finished(uint8_t *answer) { return answers(answer, 0, 0, 0, 0, 0, 0); }
+static uint32_t repeated(uint8_t *answer) { return answers(answer, 0, 0, 2, 0, 0, 0); }
 
 /* ---- Starting */
 
@@ -203,8 +208,8 @@ uint32_t MODEL(reader_start)(uint32_t size, uint32_t first, uint8_t *state, size
 {
     reader r;
     r.r = fresh(size, first);
-    r.b4 = 0;
-    if (state_len != 20 || answer_len != 24) return 1;
+    r.b4 = r.accepted = 0;
+    if (state_len != 24 || answer_len != 24) return 1;
     if (start_refusal(size, first)) return refused(answer, start_refusal(size, first), 0);
     put_reader(state, &r);
     return finished(answer);
@@ -264,10 +269,12 @@ static void pass(standing *s, const uint8_t *entry)
     else s->where = where_after(kind);
 }
 
-static num read_refusal(const reader *r, num group_len, num number, num entries, num rows_len)
+/* document 02, request 2026-05: the number of the last accepted group of this run, where one was accepted */
+static int is_repeat(const reader *r, num number) { return r->accepted && number == r->r.next - 1; }
+
+/* 5, 6 or 7, which come behind a repeat; 0 if none */
+static num read_refusal(const reader *r, num number, num entries, num rows_len)
 {
-    if (!reader_sound(r)) return 1;
-    if (group_len != r->r.size) return 4;
     if (number != r->r.next || r->r.next == LAST_NUMBER + 1) return 5;
     if (!entries_in_range(r->r.size, entries)) return 6;
     if (rows_len < 12 * entries) return 7;
@@ -280,9 +287,12 @@ uint32_t MODEL(read)(uint8_t *state, size_t state_len, const uint8_t *group, siz
     reader r;
     standing s, again;
     num k, refusal;
-    if (state_len != 20 || answer_len != 24) return 1;
+    if (state_len != 24 || answer_len != 24) return 1;
     r = get_reader(state);
-    refusal = read_refusal(&r, group_len, number, entries, rows_len);
+    if (!reader_sound(&r)) return refused(answer, 1, 0);
+    if (group_len != r.r.size) return refused(answer, 4, 0);
+    if (is_repeat(&r, number)) return repeated(answer);
+    refusal = read_refusal(&r, number, entries, rows_len);
     if (refusal) return refused(answer, refusal, 0);
     s.where = r.r.phase; s.sum = r.r.sum; s.data = 0; s.b4 = r.b4;
     again = s;
@@ -303,6 +313,7 @@ uint32_t MODEL(read)(uint8_t *state, size_t state_len, const uint8_t *group, siz
     r.r.phase = s.where;
     r.r.sum = s.sum;
     r.b4 = s.b4;
+    r.accepted = 1;
     put_reader(state, &r);
     return finished(answer);
 }

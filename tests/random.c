@@ -37,12 +37,12 @@ static uint32_t some_phase(uint32_t *sum)
     return phase;
 }
 
-static uint32_t some_number(void) { return one_in(20) ? 65536 - below(2) : 1 + below(65535); }
+static uint32_t some_number(void) { return one_in(20) ? 65536 - below(2) : one_in(20) ? 1 + below(2) : 1 + below(65535); }
 
 static void sound_reader(uint8_t *state, uint32_t size)
 {
-    uint32_t sum, phase = some_phase(&sum);
-    put_reader(state, size, some_number(), phase, sum, below(2));
+    uint32_t sum, phase = some_phase(&sum), next = some_number();
+    put_reader(state, size, next, phase, sum, below(2), next == 1 ? 0 : below(2));
 }
 
 static void sound_writer(uint8_t *state, uint32_t size)
@@ -132,12 +132,22 @@ static void wrong_lengths(desk *d)
     if (one_in(100)) resize(&d->of[GROUP], below(130));
 }
 
+/* the next number, often the one before it, seldom any */
+static uint32_t some_group(const desk *d)
+{
+    if (one_in(60)) return bound();
+    return field(d, DDS_STATE_NEXT) - (one_in(6) ? 1 : 0);
+}
+
+static long repeats; /* reads that told a repeat */
+
 static void reads_some(desk *d, long count)
 {
     slice *group = &d->of[GROUP], *rows = &d->of[ROWS];
     while (count--) {
         uint32_t size, n, most, how = below(8), number;
         some_state(d, DDS_READER_LEN, some_size());
+        if (one_in(20)) put(d->of[STATE].at + DDS_READER_ACCEPTED, below(3));
         size = (uint32_t)group->len;
         most = (size - 32) / 4;
         n = 1 + below(one_in(4) || most < 6 ? most : 6);
@@ -148,12 +158,12 @@ static void reads_some(desk *d, long count)
             lawful(group->at, size, n, field(d, DDS_STATE_PHASE), field(d, DDS_STATE_SUM), field(d, DDS_READER_B4));
             if (how > 3) spoil(group->at, size, n);
         }
-        number = one_in(60) ? bound() : field(d, DDS_STATE_NEXT);
+        number = some_group(d);
         if (one_in(60)) n = bound();
         resize(rows, n > most ? below(200) : one_in(60) ? below(12 * n + 1) : 12 * n + below(20));
         memset(rows->at, (int)below(256), rows->len);
         wrong_lengths(d);
-        both(d, READ, number, n, 0);
+        if (both(d, READ, number, n, 0) == 0) repeats += get(d->of[ANSWER].at + DDS_ANSWER_OUTCOME) == DDS_OUTCOME_REPEAT;
     }
 }
 
@@ -174,7 +184,7 @@ static void every_flag(desk *d)
                 for (count = 0; count < sizeof counts / sizeof *counts; count++)
                     for (behind = 0; behind < 3; behind++) {
                         uint32_t n = 0, data = places[place].before >> 30 & 1;
-                        put_reader(d->of[STATE].at, 64, 7, places[place].phase, places[place].phase ? 9 : 0, b4);
+                        put_reader(d->of[STATE].at, 64, 7, places[place].phase, places[place].phase ? 9 : 0, b4, 0);
                         memset(d->of[GROUP].at, LENT, 64);
                         if (places[place].before) put(entry(&d->of[GROUP], ++n), places[place].before | b4 << 27);
                         put(entry(&d->of[GROUP], ++n), flag << 24 | counts[count]);
@@ -269,5 +279,6 @@ int main(int argc, char **argv)
     long_records();
     leave(&d);
     came_up(count, 10000, LIST(0, 1, 2, 3, 4, 5, 6, 7, 8, 9, 10, 12, 13, 14, 15, 16, 17, 18, 19, 20, 21, 22));
+    if (count >= 10000 && repeats < count / 50) { fprintf(stderr, "  %ld repeats are too few\n", repeats); failures++; }
     return finish_pairs("random");
 }

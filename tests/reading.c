@@ -1,6 +1,6 @@
-/* Readings 13 to 21: one group read. Tables are given as flag and count in one word, entry 1 first; the rest of each
-   group is bytes EE, so that data, gap and the last 32 bytes are never what is expected. L = 64 unless it is said:
-   data may reach 32 - 4n. */
+/* Readings 13 to 21, and request 2026-05: one group read, or a repeat told. Tables are given as flag and count in one word,
+   entry 1 first; the rest of each group is bytes EE, so that data, gap and the last 32 bytes are never what is expected. L = 64
+   unless it is said: data may reach 32 - 4n. */
 
 #include "groups.h"
 
@@ -28,7 +28,7 @@
 
 static void reading_13(void)
 {
-    static const uint32_t numbers[] = { 0, 1, 65535, 65536, 65537, 0xFFFFFFFF };
+    static const uint32_t numbers[] = { 0, 1, 65534, 65536, 65537, 0x1FFFF, 0xFFFFFFFF };
     size_t i;
     uint32_t phase;
     desk s = reader(64, 65535, 0, 0);
@@ -38,19 +38,27 @@ static void reading_13(void)
     reader_is(&s, "reading 13: group 65,535 is accepted", 64, 65536, 0, 0);
     for (i = 0; i < sizeof numbers / sizeof *numbers; i++) {
         reads(&s, numbers[i], 1);
-        refused(&s, "reading 13: after it every number is 5", 5, 0);
+        refused(&s, "reading 13: after it every other number is 5", 5, 0);
         reads(&s, numbers[i], 0);
         refused(&s, "reading 13: before 6", 5, 0);
     }
+    reads(&s, 65535, 1);
+    repeated(&s, "request 2026-05: 65,535 again at 65,536");
+    reads(&s, 65535, 0);
+    repeated(&s, "request 2026-05: 65,535 again at 65,536, before 6");
     relend(&s.of[GROUP], 65);
     reads(&s, 65536, 1);
     refused(&s, "reading 13: after 4", 4, 0);
+    reads(&s, 65535, 1);
+    refused(&s, "request 2026-05: 65,535 again, of another length", 4, 0);
     leave(&s);
     for (phase = 0; phase < 3; phase++) {
         s = reader(64, 65536, phase, phase * 9);
         table(&s, LIST(0x80000040));
         reads(&s, 65536, 1);
         refused(&s, "reading 13: in each phase", 5, 0);
+        reads(&s, 65535, 1);
+        refused(&s, "reading 13: 65,535 too, where no group was accepted", 5, 0);
         leave(&s);
     }
 }
@@ -217,7 +225,7 @@ static void reading_21(void)
     reads(&s, 10, 1);
     finished(&s, "reading 21: it stays in an empty group");
     reader_starts(&s, 64, 11);
-    reader_is(&s, "reading 21: a fresh start clears it", 64, 11, 0, 0);
+    reader_is_fresh(&s, "reading 21: a fresh start clears it", 64, 11);
     leave(&s);
     REFUSED("b4 dropped at 2", 0, 0, 9, 2, 0x6B000001, 0x63000001, 0x8800003E);
     REFUSED("b4 dropped at the skip", 0, 0, 9, 3, 0x63000001, 0x6B000001, 0x8000003E);
@@ -232,6 +240,242 @@ static void reading_21(void)
     REFUSED_B4("9 before 12 at entry 1", 0, 0, 1, 9, 1, 0x63000019, 0x88000027);
     REFUSED_B4("9 before 13 at entry 1", 0, 0, 1, 9, 1, 0x8000003F);
     REFUSED_B4("10 at entry 1 with b4", 0, 0, 1, 10, 1, 0x48000001, 0x8800003F);
+}
+
+/* ---- Request 2026-05: a group with the number of the last accepted group of this run is a repeat */
+
+/* a group of this number, of which all else is wrong but its length: its bytes are EE, and it has no entries and no rows */
+static void reads_blank(desk *s, uint32_t number)
+{
+    memset(s->of[GROUP].at, LENT, s->of[GROUP].len);
+    relend(&s->of[ROWS], 0);
+    reads(s, number, 0);
+}
+
+/* case A: an entire record of 20 bytes, Separator 1, skip */
+#define CASE_A LIST(0x63000014, 0x07000000, 0x8000002C)
+#define CASE_A_ROWS "00*3 06 00*4 00*3 14 00*3 02 00*3 14 00*4 00*3 07 00*3 14 00*3 2C"
+
+/* the same group again, with its rows as they were filled and with others; then with other contents, or none */
+static void repeat_contents(void)
+{
+    desk s = reader(64, 7, 0, 0);
+    table(&s, CASE_A);
+    reads(&s, 7, 3);
+    finished(&s, "case A");
+    slice_is(&s, ROWS, "case A", CASE_A_ROWS);
+    reads(&s, 7, 3);
+    repeated(&s, "the same group again");
+    slice_is(&s, ROWS, "the same group again leaves the rows of before", CASE_A_ROWS);
+    reader_is(&s, "the same group again", 64, 8, 0, 0);
+    table(&s, CASE_A);
+    reads(&s, 7, 3);
+    repeated(&s, "the same group again, other rows");
+    slice_is(&s, ROWS, "the same group again fills no rows", "EE*36");
+    memset(s.of[GROUP].at, LENT, 64);
+    reads(&s, 7, 3);
+    repeated(&s, "flags EE");
+    table(&s, LIST(0x6300000A, 0x80000036));
+    reads(&s, 7, 2);
+    repeated(&s, "another lawful table");
+    reads(&s, 7, 0);
+    repeated(&s, "no entries");
+    reads(&s, 7, 9);
+    repeated(&s, "more entries than 64 bytes can have");
+    reads(&s, 7, 0xFFFFFFFF);
+    repeated(&s, "more entries than any group can have");
+    relend(&s.of[ROWS], 23);
+    reads(&s, 7, 2);
+    repeated(&s, "too few rows");
+    lend_none(&s.of[ROWS], 1);
+    reads(&s, 7, 2);
+    repeated(&s, "no rows");
+    reads(&s, 7, 0);
+    repeated(&s, "no rows and no entries");
+    reads_blank(&s, 7);
+    repeated(&s, "nothing at all");
+    reader_is(&s, "after all of them", 64, 8, 0, 0);
+    leave(&s);
+}
+
+/* the group's length is looked at: 4 comes first */
+static void repeat_lengths(void)
+{
+    static const size_t lengths[] = { 0, 1, 32, 63, 65, 128, 126632 };
+    size_t i;
+    desk s = reader_with(64, 8, 0, 0, 0, 1);
+    for (i = 0; i < sizeof lengths / sizeof *lengths; i++) {
+        relend(&s.of[GROUP], lengths[i]);
+        reads(&s, 7, 2);
+        refused(&s, "a repeat of another length", 4, 0);
+    }
+    relend(&s.of[GROUP], 64);
+    reads(&s, 7, 2);
+    repeated(&s, "a repeat of L bytes");
+    leave(&s);
+}
+
+/* the first group twice, from a fresh start at each of these numbers; before it the number below is 5; a start begins anew */
+static void repeat_from_fresh(void)
+{
+    static const uint32_t firsts[] = { 1, 2, 7, 65535 };
+    size_t i;
+    for (i = 0; i < sizeof firsts / sizeof *firsts; i++) {
+        const uint32_t first = firsts[i];
+        desk s = reader(64, 9, 1, 9);
+        reader_starts(&s, 64, first);
+        reads_blank(&s, first - 1);
+        refused(&s, "before any group was accepted", 5, 0);
+        reads_blank(&s, first);
+        refused(&s, "the first group, with no entry", 6, 0);
+        reads_blank(&s, first - 1);
+        refused(&s, "a refused group is none that was accepted", 5, 0);
+        reader_is_fresh(&s, "no group was accepted", 64, first);
+        table(&s, CASE_A);
+        reads(&s, first, 3);
+        finished(&s, "the first group");
+        reader_is(&s, "the first group", 64, first + 1, 0, 0);
+        reads_blank(&s, first);
+        repeated(&s, "the first group twice");
+        reads_blank(&s, first - 1);
+        refused(&s, "the number below the first group's", 5, 0);
+        reader_starts(&s, 64, first);
+        reader_is_fresh(&s, "a run begins anew", 64, first);
+        reads_blank(&s, first);
+        refused(&s, "the first group of another run", 6, 0);
+        leave(&s);
+    }
+}
+
+/* any number of repeats in a row: nothing counts them */
+static void repeats_in_a_row(void)
+{
+    int i;
+    desk s = reader(64, 7, 0, 0);
+    table(&s, CASE_A);
+    reads(&s, 7, 3);
+    for (i = 0; i < 20; i++) {
+        reads_blank(&s, 7);
+        repeated(&s, "one of several in a row");
+    }
+    table(&s, CASE_A);
+    reads(&s, 8, 3);
+    finished(&s, "the group behind them");
+    slice_is(&s, ROWS, "the group behind them", CASE_A_ROWS);
+    reads_blank(&s, 7);
+    refused(&s, "the group before the last is none", 5, 0);
+    reads_blank(&s, 8);
+    repeated(&s, "the last one is");
+    reader_is(&s, "the last one is", 64, 9, 0, 0);
+    leave(&s);
+}
+
+/* after a refused group the last accepted one still is a repeat, and the refused one is read anew */
+static void repeat_after_refusals(void)
+{
+    desk s = reader(64, 7, 0, 0);
+    table(&s, CASE_A);
+    reads(&s, 7, 3);
+    finished(&s, "group 7");
+    table(&s, LIST(0x43000014, 0x07000000, 0x8000002C));
+    reads(&s, 8, 3);
+    refused(&s, "group 8, its first flag 43", 8, 1);
+    reads_blank(&s, 7);
+    repeated(&s, "group 7 after a refused group 8");
+    reads_blank(&s, 8);
+    refused(&s, "a refused group is no repeat", 6, 0);
+    reads_blank(&s, 9);
+    refused(&s, "group 9", 5, 0);
+    reads_blank(&s, 7);
+    repeated(&s, "group 7 after a refused group 9");
+    reader_is(&s, "before the right group 8", 64, 8, 0, 0);
+    table(&s, CASE_A);
+    reads(&s, 8, 3);
+    finished(&s, "the right group 8");
+    slice_is(&s, ROWS, "the right group 8", CASE_A_ROWS);
+    reads_blank(&s, 8);
+    repeated(&s, "group 8 twice");
+    reads_blank(&s, 7);
+    refused(&s, "group 7 after group 8", 5, 0);
+    reader_is(&s, "behind group 8", 64, 9, 0, 0);
+    leave(&s);
+}
+
+/* in the midst of a record of 24, 24 and 21 bytes, whose total is owed: phase, sum and b4 stay at each repeat */
+static void repeat_in_a_record(void)
+{
+    desk s = reader(64, 3, 0, 0);
+    table(&s, LIST(0x42000018, 0x80000028));
+    reads(&s, 3, 2);
+    finished(&s, "start 24");
+    reads_blank(&s, 3);
+    repeated(&s, "start 24 again");
+    reader_is(&s, "start 24 again", 64, 4, 1, 24);
+    table(&s, LIST(0x40000018, 0x88000028));
+    reads(&s, 4, 2);
+    finished(&s, "middle 24, b4 from its skip on");
+    table(&s, LIST(0x40000018, 0x80000028));
+    reads(&s, 4, 2);
+    repeated(&s, "middle 24 again, without b4");
+    reader_b4_is(&s, "middle 24 again, without b4", 64, 5, 1, 48, 1);
+    table(&s, LIST(0x68000015, 0x8800002B));
+    reads(&s, 5, 2);
+    finished(&s, "last 21");
+    reads_blank(&s, 5);
+    repeated(&s, "last 21 again");
+    reader_b4_is(&s, "last 21 again", 64, 6, 2, 69, 1);
+    table(&s, LIST(0x09000045, 0x88000040));
+    reads(&s, 6, 2);
+    finished(&s, "total 69");
+    slice_is(&s, ROWS, "total 69", "00*3 01 00*4 00*3 45 00*3 07 00*4 00*3 40");
+    reads_blank(&s, 6);
+    repeated(&s, "total 69 again");
+    reader_b4_is(&s, "total 69 again", 64, 7, 0, 0, 1);
+    leave(&s);
+}
+
+/* two instances that differ: the first that is handed in is the one that is read, whichever it is */
+static void first_instance(void)
+{
+    static const uint32_t instances[2][2] = { { 0x63000005, 0x8000003B }, { 0x42000009, 0x80000037 } };
+    static const char *const rows[2] = { "00*3 06 00*4 00*3 05 00*3 07 00*3 05 00*3 3B",
+                                         "00*3 04 00*4 00*3 09 00*3 07 00*3 09 00*3 37" };
+    uint32_t i;
+    for (i = 0; i < 2; i++) {
+        desk s = reader(64, 7, 0, 0);
+        table(&s, 2, instances[i]);
+        reads(&s, 7, 2);
+        finished(&s, "the first instance");
+        put(entry(&s.of[GROUP], 1), instances[1 - i][0]);
+        put(entry(&s.of[GROUP], 2), instances[1 - i][1]);
+        reads(&s, 7, 2);
+        repeated(&s, "another instance");
+        slice_is(&s, ROWS, "the first instance's rows", rows[i]);
+        reader_is(&s, "the first instance's state", 64, 8, i, 9 * i);
+        leave(&s);
+    }
+}
+
+/* in each phase, with b4 clear and set, at each of these next numbers: the number before it is a repeat where a group was
+   accepted and 5 where none was; no other number is, and none is cut */
+static void repeat_numbers(void)
+{
+    static const uint32_t nexts[] = { 2, 3, 7, 256, 65535, 65536 };
+    static const uint32_t off[] = { 1, 2, 3, 0x100, 0x10000, 0x10001, 0x80000000, 0xFFFF0000, 0xFFFFFFFE, 0xFFFFFFFF };
+    uint32_t i, k, phase, b4, accepted;
+    for (i = 0; i < sizeof nexts / sizeof *nexts; i++)
+        for (phase = 0; phase < 3; phase++)
+            for (b4 = 0; b4 < 2; b4++)
+                for (accepted = 0; accepted < 2; accepted++) {
+                    desk s = reader_with(64, nexts[i], phase, 9 * phase, b4, accepted);
+                    reads_blank(&s, nexts[i] - 1);
+                    if (accepted) repeated(&s, "the number before the next"); else refused(&s, "none was accepted", 5, 0);
+                    for (k = 0; k < sizeof off / sizeof *off; k++) {
+                        reads_blank(&s, nexts[i] - 1 + off[k]);
+                        refused(&s, "another number", off[k] == 1 && nexts[i] < 65536 ? 6 : 5, 0);
+                    }
+                    leave(&s);
+                }
 }
 
 /* all 256 flags at entry 1, with b4 clear and set in the state */
@@ -348,6 +592,14 @@ int main(void)
     reading_19();
     reading_20();
     reading_21();
+    repeat_contents();
+    repeat_lengths();
+    repeat_from_fresh();
+    repeats_in_a_row();
+    repeat_after_refusals();
+    repeat_in_a_record();
+    first_instance();
+    repeat_numbers();
     first_flags();
     flags();
     follow();

@@ -26,7 +26,7 @@ static void start_refusals(void)
         } else {
             finished(&r, "reader start");
             finished(&w, "writer start");
-            reader_is(&r, "reader start", cases[i].size, cases[i].first, 0, 0);
+            reader_is_fresh(&r, "reader start", cases[i].size, cases[i].first);
             writer_is(&w, "writer start", cases[i].size, cases[i].first, 0, 0, 0, 0, 0, 0);
         }
         leave(&r);
@@ -34,15 +34,15 @@ static void start_refusals(void)
     }
 }
 
-/* ---- Read: 1, 4, 5, 6, 7, then the entries */
+/* ---- Read: 1, 4, a repeat, 5, 6, 7, then the entries */
 
 static void read_order(void)
 {
     static const uint32_t order[6] = { 1, 4, 5, 6, 7, 8 };
     uint32_t faults, i;
-    for (faults = 0; faults < 64; faults++) {
+    for (faults = 0; faults < 128; faults++) {
         uint32_t entries = faults & 8 ? 9 : 3;
-        desk s = reader(64, 5, 0, faults & 1 ? 7 : 0);
+        desk s = reader_with(64, 5, 0, faults & 1 ? 7 : 0, 0, faults >> 6); /* whether a group was accepted or not */
         table(&s, LIST(0x6300000A, 0x07000001, 0x80000036));
         if (faults & 32) s.of[GROUP].at[28] = 0x43;
         if (faults & 2) relend(&s.of[GROUP], 63);
@@ -58,6 +58,26 @@ static void read_order(void)
     }
 }
 
+/* request 2026-05: a repeat comes behind 1 and 4, and before 5, 6, 7 and whatever its entries are */
+static void repeat_order(void)
+{
+    uint32_t faults;
+    for (faults = 0; faults < 128; faults++) {
+        uint32_t entries = faults & 8 ? 9 : 3;
+        desk s = reader_with(64, 5, 0, faults & 1 ? 7 : 0, 0, faults & 64 ? 2 : faults & 4 ? 0 : 1);
+        table(&s, LIST(0x6300000A, 0x07000001, 0x80000036));
+        if (faults & 32) s.of[GROUP].at[28] = 0x43;
+        if (faults & 2) relend(&s.of[GROUP], 63);
+        relend(&s.of[ROWS], faults & 16 ? 12 * entries - 1 : 12 * entries);
+        reads(&s, 4, entries);
+        if (faults & 65) refused(&s, "repeat, order: state not sound", 1, 0);
+        else if (faults & 2) refused(&s, "repeat, order: another length", 4, 0);
+        else if (faults & 4) refused(&s, "repeat, order: no group was accepted", 5, 0);
+        else repeated(&s, "repeat, order");
+        leave(&s);
+    }
+}
+
 static void read_refusals(void)
 {
     static const uint32_t numbers[] = { 0, 1, 6, 8, 65535, 65536, 65543, 0x80000007, 0xFFFFFFFF };
@@ -68,6 +88,11 @@ static void read_refusals(void)
     desk s = reader(64, 7, 0, 0);
     table(&s, LIST(0x07000000, 0x80000040));
     for (i = 0; i < sizeof numbers / sizeof *numbers; i++) { reads(&s, numbers[i], 2); refused(&s, "read 5", 5, 0); }
+    put(s.of[STATE].at + DDS_READER_ACCEPTED, 1);
+    for (i = 0; i < sizeof numbers / sizeof *numbers; i++) {
+        reads(&s, numbers[i], 2);
+        if (numbers[i] == 6) repeated(&s, "read 5: all but the number before"); else refused(&s, "read 5, accepted", 5, 0);
+    }
     for (i = 0; i < sizeof counts / sizeof *counts; i++) { reads(&s, 7, counts[i]); refused(&s, "read 6", 6, 0); }
     for (i = 0; i < sizeof rows / sizeof *rows; i++) {
         relend(&s.of[ROWS], rows[i]);
@@ -268,6 +293,7 @@ int main(void)
 {
     start_refusals();
     read_order();
+    repeat_order();
     read_refusals();
     read_entry_refusals();
     read_first_entry();

@@ -1,6 +1,7 @@
 /* Whole runs at random: records, separators and ends written by the library and the model side by side, every call
-   compared; then each run read by both, and what the rows give compared with what was written, after each group and at
-   the end. Half the runs are read from the model's groups. COUNT is how many runs: runs [COUNT]. */
+   compared; then each run read by both, with repeats among its groups, and what the rows give compared with what was
+   written, after each group and at the end. Half the runs are read from the model's groups. COUNT is how many runs:
+   runs [COUNT]. */
 
 #include "groups.h"
 #include "pair.h"
@@ -39,7 +40,8 @@ static void put_away(desk *d, int from_model)
     memset(d->of[GROUP].at, (int)below(256), d->of[GROUP].len);
 }
 
-static int closes(const desk *d) { return get(d->of[ANSWER].at + DDS_ANSWER_OUTCOME) == DDS_OUTCOME_CLOSED; }
+static uint32_t outcome_of(const desk *d) { return get(d->of[ANSWER].at + DDS_ANSWER_OUTCOME); }
+static int closes(const desk *d) { return outcome_of(d) == DDS_OUTCOME_CLOSED; }
 static uint32_t phase_of(const desk *d) { return get(d->of[STATE].at + DDS_STATE_PHASE); }
 
 static uint32_t length(uint32_t size)
@@ -123,23 +125,40 @@ static uint32_t b4_behind(const closed_group *g, uint32_t size, uint32_t b4)
     return b4;
 }
 
+/* request 2026-05: the last accepted group again, whatever it holds now, is a repeat. The rows that it leaves are looked at
+   later. */
+static void hands_in_again(desk *d, const closed_group *g)
+{
+    uint8_t state[DDS_READER_LEN];
+    memcpy(state, d->of[STATE].at, DDS_READER_LEN);
+    memset(d->of[GROUP].at, (int)below(256), d->of[GROUP].len);
+    if (both(d, READ, g->number, below(4), 0) || outcome_of(d) != DDS_OUTCOME_REPEAT) failed("no repeat", d->refusal, g->number);
+    if (memcmp(state, d->of[STATE].at, DDS_READER_LEN)) failed("a repeat leaves the state", d->refusal, g->number);
+}
+
 /* reads the run and compares each item as it is finished; an open record's bytes so far as well */
 static void reads_back(desk *d, uint32_t size, uint32_t first)
 {
     uint32_t g, k, done = 0, so_far = 0, phase, b4 = 0;
     resize(&d->of[GROUP], size);
     both(d, READER_START, size, first, 0);
+    if (both(d, READ, first - 1, 1, 0) != 5) failed("a repeat before any group", d->refusal, first);
     for (g = 0; g < group_count; g++) {
         resize(&d->of[ROWS], 12 * groups[g].entries + below(30));
         memset(d->of[ROWS].at, (int)below(256), d->of[ROWS].len);
         memcpy(d->of[GROUP].at, groups[g].image, size);
         if (g + 1 < group_count && both(d, READ, groups[g + 1].number, groups[g].entries, 0) != 5) failed("a later number", g, 0);
         if (b4) drops_b4(d, &groups[g]);
+        if (g && one_in(4)) { /* after what was refused */
+            hands_in_again(d, &groups[g - 1]);
+            memcpy(d->of[GROUP].at, groups[g].image, size);
+        }
         b4 = b4_behind(&groups[g], size, b4);
-        if (both(d, READ, groups[g].number, groups[g].entries, 0)) {
-            failed("a written group was refused", d->refusal, g);
+        if (both(d, READ, groups[g].number, groups[g].entries, 0) || outcome_of(d) != DDS_OUTCOME_FINISHED) {
+            failed("a written group was not accepted", d->refusal, g);
             return;
         }
+        while (one_in(3)) hands_in_again(d, &groups[g]);
         for (k = 0; k < groups[g].entries; k++) {
             const uint8_t *row = d->of[ROWS].at + 12 * k;
             uint32_t kind = get(row), offset = get(row + 4), count = get(row + 8);
@@ -149,7 +168,7 @@ static void reads_back(desk *d, uint32_t size, uint32_t first)
             if (it->separator != (kind == 2)) { failed("another item", done, kind); return; }
             if (kind == 2 && count != it->count) { failed("separator value", count, it->count); return; }
             if (kind >= 3 && kind <= 6) {
-                if (so_far + count > it->count || memcmp(d->of[GROUP].at + offset, written.pool + it->at + so_far, count)) {
+                if (so_far + count > it->count || memcmp(groups[g].image + offset, written.pool + it->at + so_far, count)) {
                     failed("record bytes", done, so_far);
                     return;
                 }

@@ -1,6 +1,6 @@
 /* Readings 2, 4 to 6 and 8: slices and arguments of the calls on groups, beside what examples.c tries on every call. What a start
-   is lent, a reader's state as it was before request 2026-03, warns without meaning, empty slices, row slices, and lengths of 2^32
-   and more that no rule forbids outright. */
+   is lent, a reader's state as it was before requests 2026-03 and 2026-05, warns without meaning, empty slices, row slices,
+   slices that a repeat does not touch, and lengths of 2^32 and more that no rule forbids outright. */
 
 #define _DEFAULT_SOURCE
 #include "fence.h"
@@ -17,10 +17,11 @@ static desk lawful(void)
 /* reading 2: a start never looks at what the state slice holds */
 static void starts_over(void)
 {
-    desk r = reader_b4(0xFFFFFFFF, 0xFFFFFFFF, 0xFFFFFFFF, 0xFFFFFFFF, 0xFFFFFFFF), w = writer(0, 0, 3, 9, 9, 9, 9, 9);
+    const uint32_t all = 0xFFFFFFFF;
+    desk r = reader_with(all, all, all, all, all, all), w = writer(0, 0, 3, 9, 9, 9, 9, 9);
     reader_starts(&r, 64, 0x1234);
     finished(&r, "reading 2: reader start over garbage");
-    reader_is(&r, "reading 2: reader start over garbage", 64, 0x1234, 0, 0);
+    reader_is_fresh(&r, "reading 2: reader start over garbage", 64, 0x1234);
     writer_starts(&w, 0x01EEA8, 65535);
     finished(&w, "reading 2: writer start over garbage");
     writer_is(&w, "reading 2: writer start over garbage", 0x01EEA8, 65535, 0, 0, 0, 0, 0, 0);
@@ -30,27 +31,38 @@ static void starts_over(void)
     leave(&w);
 }
 
-/* request 2026-03: a reader's state of the 16 bytes that it had before is another length; with b4 put behind it, it is right */
+/* a reader's state of this many bytes, those of a state that is 24 bytes long, is another length */
+static void old_state(desk *s, const uint8_t *state, size_t len)
+{
+    relend(&s->of[STATE], len);
+    memcpy(s->of[STATE].at, state, len);
+    reads(s, 7, 2);
+    refused_unwritten(s, "an old state: a read");
+    reads(s, 6, 2);
+    refused_unwritten(s, "an old state: a repeat");
+    reader_starts(s, 64, 7);
+    refused_unwritten(s, "an old state: a start");
+}
+
+/* the 16 bytes of before request 2026-03, and the 20 of before 2026-05; with b4 and accepted behind them they are right */
 static void old_states(void)
 {
-    uint32_t b4;
-    for (b4 = 0; b4 < 3; b4++) {
-        desk s = lawful();
-        uint8_t state[DDS_READER_LEN];
-        put_reader(state, 64, 7, 0, 0, b4);
-        relend(&s.of[STATE], 16);
-        memcpy(s.of[STATE].at, state, 16);
-        reads(&s, 7, 2);
-        refused_unwritten(&s, "request 2026-03: a read with 16 bytes");
-        reader_starts(&s, 64, 7);
-        refused_unwritten(&s, "request 2026-03: a start with 16 bytes");
-        relend(&s.of[STATE], DDS_READER_LEN);
-        memcpy(s.of[STATE].at, state, DDS_READER_LEN);
-        reads(&s, 7, 2);
-        if (b4 == 0) finished(&s, "request 2026-03: with b4 put behind them");
-        else refused(&s, "request 2026-03: with b4 put behind them", b4 == 1 ? 9 : 1, b4 == 1);
-        leave(&s);
-    }
+    uint32_t b4, accepted;
+    for (b4 = 0; b4 < 3; b4++)
+        for (accepted = 0; accepted < 3; accepted++) {
+            desk s = lawful();
+            uint8_t state[DDS_READER_LEN];
+            put_reader(state, 64, 7, 0, 0, b4, accepted);
+            old_state(&s, state, 16);
+            old_state(&s, state, 20);
+            relend(&s.of[STATE], DDS_READER_LEN);
+            memcpy(s.of[STATE].at, state, DDS_READER_LEN);
+            reads(&s, 7, 2);
+            if (b4 == 2 || accepted == 2) refused(&s, "an old state: a number without meaning behind it", 1, 0);
+            else if (b4 == 1) refused(&s, "an old state: b4 set behind it", 9, 1);
+            else finished(&s, "an old state: b4 and accepted behind it");
+            leave(&s);
+        }
 }
 
 /* reading 4: a warn that has no meaning, before 4, also where an end would close nothing */
@@ -99,6 +111,9 @@ static void empties(void)
         s.of[GROUP].at[28] = 0x43;
         reads(&s, 7, 2);
         refused(&s, "reading 6: empty rows, before 8", 7, 0);
+        put(s.of[STATE].at + DDS_READER_ACCEPTED, 1);
+        reads(&s, 6, 2);
+        repeated(&s, "reading 6: empty rows at a repeat");
         leave(&s);
         s = writer(64, 7, 0, 0, 3, 1, 0, 0);
         lend_none(&s.of[DATA], null);
@@ -150,6 +165,22 @@ static void long_rows(uint8_t *promised, size_t len)
     leave(&s);
 }
 
+/* request 2026-05: of a repeat neither the group nor the rows are touched; the group's length counts, and is not cut */
+static void untouched_repeat(uint8_t *promised, size_t len)
+{
+    desk s = reader_with(64, 8, 0, 0, 0, 1);
+    give_back(&s.of[GROUP]);
+    give_back(&s.of[ROWS]);
+    s.of[GROUP] = lend_promised(promised, 64);
+    s.of[ROWS] = lend_promised(promised + 64, len);
+    reads(&s, 7, 2);
+    repeated(&s, "request 2026-05: a repeat in forbidden pages");
+    s.of[GROUP].len = len;
+    reads(&s, 7, 2);
+    refused(&s, "request 2026-05: of another length", 4, 0);
+    leave(&s);
+}
+
 static void long_slices(void)
 {
     static const size_t more[] = { 0, 16, 20, 24, 32, 64 };
@@ -157,6 +188,7 @@ static void long_slices(void)
     size_t i;
     for (i = 0; i < sizeof more / sizeof *more; i++) {
         if (data) long_data(data, wide + more[i]);
+        if (data) untouched_repeat(data, wide + more[i]);
         if (rows) long_rows(rows, wide + more[i]);
     }
 }

@@ -1,13 +1,15 @@
-/* Readings 5 and 9 to 12: which states are sound. A sound state lent with an empty group is refused 4 and another one 1,
-   so that each condition is tried on both sides of each of its bounds; then states that no run reaches are served. */
+/* Readings 5 and 9 to 12, and request 2026-05: which states are sound. A sound state lent with an empty group is refused 4 and
+   another one 1, so that each condition is tried on both sides of each of its bounds; then states that no run reaches are
+   served. */
 
 #include "groups.h"
 
-static void try_reader(uint32_t sound, uint32_t size, uint32_t next, uint32_t phase, uint32_t sum, uint32_t b4)
+static void try_reader(uint32_t sound, uint32_t size, uint32_t next, uint32_t phase, uint32_t sum, uint32_t b4,
+                       uint32_t accepted)
 {
     char name[80];
-    desk s = reader_b4(size, next, phase, sum, b4);
-    snprintf(name, sizeof name, "reader %u %u %u %u %u", size, next, phase, sum, b4);
+    desk s = reader_with(size, next, phase, sum, b4, accepted);
+    snprintf(name, sizeof name, "reader %u %u %u %u %u %u", size, next, phase, sum, b4, accepted);
     relend(&s.of[GROUP], 0);
     reads(&s, next, 1);
     refused(&s, name, sound ? 4 : 1, 0);
@@ -30,20 +32,33 @@ static void try_writer(uint32_t sound, uint32_t size, uint32_t next, uint32_t ph
     leave(&s);
 }
 
+/* numbers that have no meaning as b4, reading 12, nor as accepted */
+static const uint32_t none[] = { 2, 3, 256, 257, 0x01000000, 0x80000000, 0x80000001, 0xFFFFFFFF };
+
+/* b4 and accepted, each 0, 1 and without meaning; at next number 1 no group can have been accepted */
+static void try_readers(uint32_t sound, uint32_t size, uint32_t next, uint32_t phase, uint32_t sum)
+{
+    uint32_t i, set, b4, accepted;
+    for (b4 = 0; b4 < 2; b4++)
+        for (accepted = 0; accepted < 2; accepted++)
+            try_reader(sound && !(accepted && next == 1), size, next, phase, sum, b4, accepted);
+    for (i = 0; i < sizeof none / sizeof *none; i++) {
+        for (set = 0; set < 2; set++) {
+            try_reader(0, size, next, phase, sum, none[i], set);
+            try_reader(0, size, next, phase, sum, set, none[i]);
+        }
+        try_reader(0, size, next, phase, sum, none[i], none[i]);
+    }
+}
+
 /* what reader and writer share, on a writer with nothing in its group; with b4 clear, set, and a number that has no meaning */
 static void try_both(uint32_t sound, uint32_t size, uint32_t next, uint32_t phase, uint32_t sum)
 {
-    static const uint32_t none[] = { 2, 3, 256, 257, 0x01000000, 0x80000000, 0x80000001, 0xFFFFFFFF }; /* reading 12 */
     uint32_t b4, rest = phase == 1 ? 1 : 0;
     size_t i;
-    for (b4 = 0; b4 < 2; b4++) {
-        try_reader(sound, size, next, phase, sum, b4);
-        try_writer(sound, size, next, phase, sum, 0, 0, b4, rest);
-    }
-    for (i = 0; i < sizeof none / sizeof *none; i++) {
-        try_reader(0, size, next, phase, sum, none[i]);
-        try_writer(0, size, next, phase, sum, 0, 0, none[i], rest);
-    }
+    try_readers(sound, size, next, phase, sum);
+    for (b4 = 0; b4 < 2; b4++) try_writer(sound, size, next, phase, sum, 0, 0, b4, rest);
+    for (i = 0; i < sizeof none / sizeof *none; i++) try_writer(0, size, next, phase, sum, 0, 0, none[i], rest);
 }
 
 static void shared(void)
@@ -52,7 +67,9 @@ static void shared(void)
     for (phase = 0; phase < 3; phase++) {
         uint32_t sum = 5 * phase;
         try_both(1, 64, 1, phase, sum);
+        try_both(1, 64, 2, phase, sum); /* the least number behind an accepted group */
         try_both(0, 63, 1, phase, sum);
+        try_both(0, 63, 2, phase, sum);
         try_both(0, 0, 1, phase, sum);
         try_both(1, 126632, 1, phase, sum);
         try_both(0, 126633, 1, phase, sum);
@@ -166,6 +183,14 @@ static void served(void)
     reads(&s, 1, 3);
     finished(&s, "reading 9: inside at number 1");
     reader_is(&s, "reading 9: inside at number 1", 64, 2, 0, 0);
+    leave(&s);
+    s = reader_with(64, 2, 1, 16777214, 0, 1);
+    reads(&s, 1, 3);
+    repeated(&s, "reading 9: a repeat, L = 64, sum 16,777,214 after one group");
+    leave(&s);
+    s = reader_with(64, 65536, 2, 45, 0, 0);
+    reads(&s, 65535, 3);
+    refused(&s, "reading 9: no group was accepted, and no number remains", 5, 0);
     leave(&s);
     s = writer(64, 1, 1, 16777214, 0, 0, 0, 1);
     offer(&s, 1);

@@ -1,7 +1,7 @@
 /* For valgrind: no call may decide by bytes that it has no business with. Each worked example is made with memory that was never
    written where its text has bytes LENT: states at a start, answers, groups but their tables, rows, items, whatever is to be made
-   or filled. Then whole runs are written and read back from such memory. Without valgrind it shows only that the calls do their
-   work. */
+   or filled. Then whole runs are written and read back from such memory, each group followed by a repeat that was never written.
+   Without valgrind it shows only that the calls do their work. */
 
 #include "examples.h"
 
@@ -65,6 +65,14 @@ static void by_example(const example *e)
 
 /* ---- Whole runs */
 
+/* a group of this number of which no byte was ever written is a repeat */
+static void read_again(span *reading, uint32_t number)
+{
+    lend_unwritten(&reading[GROUP], reading[GROUP].len);
+    returns(0, reading, READ, number, 0, 0);
+    check(get(reading[ANSWER].at + DDS_ANSWER_OUTCOME) == DDS_OUTCOME_REPEAT, calls[READ].name, "a repeat");
+}
+
 /* where the last call of the writing closed a group, it is read; then the writing has a group and the reading rows anew */
 static int read_closed(span *writing, span *reading)
 {
@@ -77,6 +85,7 @@ static int read_closed(span *writing, span *reading)
     lend_unwritten(&reading[ROWS], DDS_ROW_LEN * (size_t)entries);
     returns(DDS_REFUSED_NUMBER, reading, READ, number + 1, entries, 0);
     returns(0, reading, READ, number, entries, 0);
+    read_again(reading, number);
     return 1;
 }
 
