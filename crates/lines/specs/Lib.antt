@@ -1,4 +1,2 @@
--- What a reader of this crate must believe: how each line reads (Text). The other two serve contracts and proofs.
+-- What a reader of this crate must believe: how each line reads (Text).
 pub mod Text
-pub mod Added
-pub mod Names

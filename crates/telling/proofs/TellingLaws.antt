@@ -16,9 +16,9 @@ use Rattle.reader.specs.declared.ReadAnswer.the-variants as answer
 use Rattle.reader.specs.Answer.{readerStartCall, readCall, groupRows, rowsLeft, asNumbers, Reads}
 use Rattle.reader.proofs.Accepted.{accepted}
 use Rattle.sections.specs.declared.Pair.{Pair}
-use Rattle.lines.specs.Added.{Added}
+use Rattle.words.specs.Added.{Added}
+use Rattle.words.proofs.AddedLaws.{added-as}
 use Rattle.lines.specs.Text.{rowLines, groupLines, repeatLine, refusalLine, endLine}
-use Rattle.lines.proofs.AddedLaws.{added-as}
 use Rattle.lines.proofs.RowLaws.{rows-first}
 use Rattle.telling.specs.declared.Listed.the-variants.{On}
 use Rattle.telling.specs.declared.Said.{Said}

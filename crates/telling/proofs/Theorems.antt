@@ -23,7 +23,8 @@ use Rattle.reader.specs.declared.Reader.{Reader}
 use Rattle.reader.specs.declared.ReadAnswer.the-variants as answer
 use Rattle.reader.specs.Answer.{readerStartCall, sound, lengthKept, isRepeat, nextIs, rowsFit, readRefusal, answered, groupScan, readCall, groupRows}
 use Rattle.sections.specs.Sections.{largestSize, section, imagesSection, groupsSection, sizeSection, sectionsOf, pairAt}
-use Rattle.lines.specs.Text.{decimalIn, decimal, field, labelled, kindName, groupLine, rowLine, rowLines, groupLines, repeatLine, refusalLine, ending, endLine, badLine}
+use Rattle.words.specs.Words.{decimalIn, decimal, field, labelled, kindName}
+use Rattle.lines.specs.Text.{groupLine, rowLine, rowLines, groupLines, repeatLine, refusalLine, ending, endLine, badLine}
 use Rattle.telling.specs.declared.Listed.the-variants.{On}
 use Rattle.telling.specs.declared.Said.{Said}
 use Rattle.telling.specs.Telling.{Step, badStep, startStep, rowNumbers, readStep, groupStep, endStep, longestText, Tells}

@@ -3,7 +3,7 @@
 use Prim.Native.Nat.{ℕ}
 use mathlib.Core.List.{List, _∷_, _++_}
 use lib.ListN.{replicate}
-use Rattle.lines.specs.Text.{ascii, newline}
+use Rattle.words.specs.Words.{ascii, newline}
 
 -- "20 bytes 41; then 80 00 00 2C, 07 00 00 00, 63 00 00 14; then 32 zero bytes"
 abbrev pub image : List ℕ

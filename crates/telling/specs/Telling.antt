@@ -6,7 +6,7 @@ use mathlib.Core.Path.{_≡_}
 use mathlib.Core.List.{List, []}
 use mathlib.Core.Bool.{Bool, cond}
 use lib.ListN.{length}
-use Rattle.lines.specs.Added.{Added}
+use Rattle.words.specs.Added.{Added}
 use Rattle.lines.specs.Text.{groupLines, repeatLine, refusalLine, endLine, badLine}
 use Rattle.reader.specs.declared.Reader.{Reader}
 use Rattle.reader.specs.declared.ReaderStart.{ReaderStart}

@@ -2,7 +2,7 @@
 use borrow.Author.Needs.{needs}
 use mathlib.Core.Path.{sym, ap}
 use Rattle.lines.specs.Text.{ending}
-use Rattle.lines.proofs.AddedLaws.{added-as}
+use Rattle.words.proofs.AddedLaws.{added-as}
 use Rattle.lines.proofs.add_ending.Statement.{statement}
 use Rattle.lines.proofs.add_ending.Tie as tie
 

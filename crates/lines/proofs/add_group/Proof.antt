@@ -1,7 +1,7 @@
 -- `add_group` meets its contract: the group's line, then its rows'. Assumes nothing.
 use borrow.Author.Needs.{needs}
 use Rattle.lines.specs.Text.{groupLines}
-use Rattle.lines.proofs.AddedLaws.{added-then}
+use Rattle.words.proofs.AddedLaws.{added-then}
 use Rattle.lines.proofs.add_group.Statement.{statement}
 use Rattle.lines.proofs.add_group.Tie as tie
 

@@ -1,7 +1,7 @@
 -- `add_row` meets its contract: its parts, one after the other. Assumes nothing.
 use borrow.Author.Needs.{needs}
 use Rattle.lines.specs.Text.{rowLine}
-use Rattle.lines.proofs.AddedLaws.{added-then}
+use Rattle.words.proofs.AddedLaws.{added-then}
 use Rattle.lines.proofs.add_row.Statement.{statement}
 use Rattle.lines.proofs.add_row.Tie as tie
 

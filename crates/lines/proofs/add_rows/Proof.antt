@@ -5,9 +5,9 @@ use mathlib.Core.List.{List, _++_}
 use native.Mathlib.Numerals.{add-one}
 use native.Mathlib.Omega.{arith}
 use lib.ListN.{length, getD}
-use Rattle.lines.specs.Added.{Added}
+use Rattle.words.specs.Added.{Added}
 use Rattle.lines.specs.Text.{rowLine, rowLines}
-use Rattle.lines.proofs.AddedLaws.{added-as, added-then, added-none}
+use Rattle.words.proofs.AddedLaws.{added-as, added-then, added-none}
 use Rattle.lines.proofs.add_rows.Statement.{statement}
 use Rattle.lines.proofs.add_rows.Tie as tie
 

@@ -2,7 +2,7 @@
 use mathlib.Core.Path.{refl}
 use borrow.Author.Needs.{needs}
 use native.Mathlib.Omega.{arith}
-use Rattle.lines.proofs.AddedLaws.{added-none}
+use Rattle.words.proofs.AddedLaws.{added-none}
 use Rattle.telling.proofs.TellingLaws.{tells, tells-as, start-step}
 use Rattle.telling.proofs.tell_start.Statement.{statement}
 use Rattle.telling.proofs.tell_start.Tie as tie

@@ -7,7 +7,7 @@ use native.Mathlib.Omega.{arith}
 use lib.ListN.{length-append, set}
 use Rattle.numbers.specs.Store.{put}
 use Rattle.numbers.proofs.Stores.{put-put, put-none}
-use Rattle.lines.specs.Added.{Added}
+use Rattle.words.specs.Added.{Added}
 
 -- What is added where an addition ends.
 pub added-then : {most more : ℕ} {old mid text new newer : List ℕ} {at reached to : ℕ}

@@ -10,7 +10,7 @@ use lib.Dec.{ltb}
 use lib.ListN.{length, length-append}
 use borrow.Author.Tests.{lt-ltb, le-ltb, ltb-true, ltb-false}
 use Rattle.io.specs.Digits.{glyph, digits, Fewest}
-use Rattle.lines.specs.Text.{decimalIn, decimal}
+use Rattle.words.specs.Words.{decimalIn, decimal}
 
 -- How many digits were asked for.
 pub length-digits : (k n : ℕ) → length (digits 10 k n) ≡ k

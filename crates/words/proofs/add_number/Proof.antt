@@ -3,10 +3,10 @@ use borrow.Author.Needs.{needs}
 use Prim.Native.Nat.{_≤_}
 use mathlib.Core.Path.{_∙_}
 use native.Mathlib.Omega.{arith}
-use Rattle.lines.proofs.AddedLaws.{added-as}
-use Rattle.lines.proofs.DecimalLaws.{at-most-ten, decimal-fewest}
-use Rattle.lines.proofs.add_number.Statement.{statement}
-use Rattle.lines.proofs.add_number.Tie as tie
+use Rattle.words.proofs.AddedLaws.{added-as}
+use Rattle.words.proofs.DecimalLaws.{at-most-ten, decimal-fewest}
+use Rattle.words.proofs.add_number.Statement.{statement}
+use Rattle.words.proofs.add_number.Tie as tie
 
 ten : (c : tie.After-decimal) → c .decimal .result ≤ 10
 ten c = at-most-ten _ _ (c .before .before .before .fits .n .fits) (c .decimal .ensures .1 .0)

@@ -1,9 +1,9 @@
 -- `add_field` meets its contract: a space, then the number. Assumes nothing.
 use borrow.Author.Needs.{needs}
-use Rattle.lines.specs.Text.{field}
-use Rattle.lines.proofs.AddedLaws.{added-then}
-use Rattle.lines.proofs.add_field.Statement.{statement}
-use Rattle.lines.proofs.add_field.Tie as tie
+use Rattle.words.specs.Words.{field}
+use Rattle.words.proofs.AddedLaws.{added-then}
+use Rattle.words.proofs.add_field.Statement.{statement}
+use Rattle.words.proofs.add_field.Tie as tie
 
 pub add-field-spec : {M : Type 1} → statement M
 unfolding field

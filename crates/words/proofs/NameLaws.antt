@@ -6,8 +6,8 @@ use mathlib.Core.List.{List}
 use native.Mathlib.Numerals.{add-one}
 use native.Mathlib.Omega.{arith}
 use lib.ListN.{length, length-take, take, drop}
-use Rattle.lines.specs.Text.{kindNames, kindName}
-use Rattle.lines.specs.Names.{joined, namesBelow}
+use Rattle.words.specs.Words.{kindNames, kindName}
+use Rattle.words.specs.Names.{joined, namesBelow}
 
 -- Between the names below a kind and the names below the next stands the kind's name, of nine bytes at most.
 pub record Stands (kind from to : ℕ) : Type 0 where

@@ -3,10 +3,10 @@ use borrow.Author.Needs.{needs}
 use Prim.Native.Nat.{ℕ, _+_, _≤_}
 use mathlib.Core.Path.{refl}
 use native.Mathlib.Omega.{arith}
-use Rattle.lines.proofs.AddedLaws.{added-as}
-use Rattle.lines.proofs.NameLaws.{Stands, stands, part-same, part-few}
-use Rattle.lines.proofs.add_kind.Statement.{statement}
-use Rattle.lines.proofs.add_kind.Tie as tie
+use Rattle.words.proofs.AddedLaws.{added-as}
+use Rattle.words.proofs.NameLaws.{Stands, stands, part-same, part-few}
+use Rattle.words.proofs.add_kind.Statement.{statement}
+use Rattle.words.proofs.add_kind.Tie as tie
 
 part : (c : tie.After-names-below2) → Stands (c .before .before .before .before .before .args .kind) (c .before .names-below .result) (c .names-below2 .result)
 part c = stands _ _ _ (c .before .names-below .ensures) (c .names-below2 .ensures)

@@ -1,9 +1,9 @@
 -- `add_labelled` meets its contract: the word, then the number. Assumes nothing.
 use borrow.Author.Needs.{needs}
-use Rattle.lines.specs.Text.{labelled}
-use Rattle.lines.proofs.AddedLaws.{added-then}
-use Rattle.lines.proofs.add_labelled.Statement.{statement}
-use Rattle.lines.proofs.add_labelled.Tie as tie
+use Rattle.words.specs.Words.{labelled}
+use Rattle.words.proofs.AddedLaws.{added-then}
+use Rattle.words.proofs.add_labelled.Statement.{statement}
+use Rattle.words.proofs.add_labelled.Tie as tie
 
 pub add-labelled-spec : {M : Type 1} → statement M
 unfolding labelled

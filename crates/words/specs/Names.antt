@@ -3,7 +3,7 @@
 use Prim.Native.Nat.{ℕ, zero, suc, _+_}
 use mathlib.Core.List.{List, [], _∷_, _++_}
 use lib.ListN.{length}
-use Rattle.lines.specs.Text.{kindNames}
+use Rattle.words.specs.Words.{kindNames}
 
 abbrev pub joined : List (List ℕ) → List ℕ
 joined [] = []

@@ -1,9 +1,9 @@
 -- `names_below` meets its contract: kind by kind. Assumes nothing.
 use mathlib.Core.Path.{sym, ap}
-use Rattle.lines.specs.Names.{namesBelow}
-use Rattle.lines.proofs.NameLaws.{all-below}
-use Rattle.lines.proofs.names_below.Statement.{statement}
-use Rattle.lines.proofs.names_below.Tie as tie
+use Rattle.words.specs.Names.{namesBelow}
+use Rattle.words.proofs.NameLaws.{all-below}
+use Rattle.words.proofs.names_below.Statement.{statement}
+use Rattle.words.proofs.names_below.Tie as tie
 
 above : tie.Need-returns-9
 above c =
