@@ -2,7 +2,7 @@
 -- Assumes nothing.
 use Prim.Native.Nat.{ℕ, _+_, _*_, _≤_}
 use native.Mathlib.Omega.{arith}
-use mathlib.Core.List.{List, [], _∷_, _++_}
+use mathlib.Core.List.{List, [], _∷_, _++_, append-assoc}
 use mathlib.Core.Bool.{Bool, true, false, cond, false≢true}
 use mathlib.Core.Path.{_≡_, refl, sym, ap, _∙_}
 use lib.Dec.{eqb}
@@ -150,35 +150,29 @@ pub record SplitEnd (s : Reader) (a b : List Image) (lent rows : List (List ℕ)
   pub begins : ToEnd s a lent-before before left
   pub goes-on : ToEnd left b lent-behind after final
 
+-- .. a group more before that end, with the rows that its read lists.
+one-before : {s t final : Reader} {g : Image} {a b : List Image} {lent rows : List (List ℕ)} (old : List ℕ) (listed : List (List ℕ)) →
+    ((earlier before : List (List ℕ)) (left : Reader) → ToEnd t a earlier before left → ToEnd s (g ∷ a) (old ∷ earlier) (listed ++ before) left) →
+    SplitEnd t a b lent rows final → SplitEnd s (g ∷ a) b (old ∷ lent) (listed ++ rows) final
+one-before old listed reads r =
+    record {
+      left = r .left;
+      lent-before = old ∷ r .lent-before;
+      lent-behind = r .lent-behind;
+      before = listed ++ r .before;
+      after = r .after;
+      lent-parts = ap {B = List (List ℕ)} (λ l. old ∷ l) (r .lent-parts);
+      parts = append-assoc listed (r .before) (r .after) ∙ ap (λ (l : List (List ℕ)). listed ++ l) (r .parts);
+      begins = reads (r .lent-before) (r .before) (r .left) (r .begins);
+      goes-on = r .goes-on;
+    }
+
 pub split-end : {s final : Reader} {lent rows : List (List ℕ)} (a b : List Image) → ToEnd s (a ++ b) lent rows final → SplitEnd s a b lent rows final
-split-end {s} {lent} {rows} [] b x = record { left = s; lent-before = []; lent-behind = lent; before = []; after = rows; lent-parts = refl; parts = refl; begins = end-none; goes-on = x }
+split-end {s} {lent} {rows} [] b x =
+    record { left = s; lent-before = []; lent-behind = lent; before = []; after = rows; lent-parts = refl; parts = refl; begins = end-none; goes-on = x }
 split-end (g ∷ a) b (end-more {s} old e x) =
-    let r = split-end a b x in
-    let row : List ℕ = rowsLeft (readCall s (g .bytes) (g .number) (g .entries) (length old)) (groupRows s (g .bytes) (g .entries)) old in
-    record {
-      left = r .left;
-      lent-before = old ∷ r .lent-before;
-      lent-behind = r .lent-behind;
-      before = row ∷ r .before;
-      after = r .after;
-      lent-parts = ap {B = List (List ℕ)} (λ l. old ∷ l) (r .lent-parts);
-      parts = ap {B = List (List ℕ)} (λ l. row ∷ l) (r .parts);
-      begins = end-more old e (r .begins);
-      goes-on = r .goes-on;
-    }
-split-end (g ∷ a) b (end-repeat old e x) =
-    let r = split-end a b x in
-    record {
-      left = r .left;
-      lent-before = old ∷ r .lent-before;
-      lent-behind = r .lent-behind;
-      before = r .before;
-      after = r .after;
-      lent-parts = ap {B = List (List ℕ)} (λ l. old ∷ l) (r .lent-parts);
-      parts = r .parts;
-      begins = end-repeat old e (r .begins);
-      goes-on = r .goes-on;
-    }
+    one-before old (rowsLeft (readCall s (g .bytes) (g .number) (g .entries) (length old)) (groupRows s (g .bytes) (g .entries)) old ∷ []) (λ earlier before left y. end-more old e y) (split-end a b x)
+split-end (g ∷ a) b (end-repeat old e x) = one-before old [] (λ earlier before left y. end-repeat old e y) (split-end a b x)
 
 -- Numbers never fall: a later group bears the number of the last accepted one, or a higher one.
 pub record Behind (s : Reader) (g : Image) (gs : List Image) : Type 0 where

@@ -3,7 +3,7 @@
 -- Assumes nothing.
 use mathlib.Core.Path.{_≡_, refl, sym, ap, _∙_, subst}
 use mathlib.Core.Bool.{true}
-use mathlib.Core.List.{List, [], _∷_, _++_}
+use mathlib.Core.List.{List, [], _∷_, _++_, append-assoc}
 use Prim.Native.Nat.{ℕ, _/_}
 use native.Mathlib.Omega.{arith}
 use lib.ListN.{length}
@@ -23,7 +23,7 @@ use Rattle.slices.specs.Call.{Left, outcomeSeen}
 use Rattle.c_reader.specs.Calls.{ddsReaderStart, ddsRead, readerLeft, rowsRead}
 use Rattle.c_reader.proofs.Theorems.{start-returns-zero, read-accepts, read-repeats, read-repeated, read-left}
 use Rattle.trip.specs.ThroughC.{Loan, numbersLent, AcceptsC, ToEndC}
-use Rattle.trip.specs.Stated.{AcceptedC, AcceptsOwn, SplitC, ReadToEndC, ReadsOwn, SplitEndC}
+use Rattle.trip.specs.Stated.{AcceptedC, AcceptsOwn, Reading, SplitC, ReadToEndC, ReadsOwn}
 use Rattle.trip.proofs.SmallRows.{small-rows}
 use Rattle.reader.proofs.GroupRows.{length-group-rows}
 use Rattle.trip.proofs.Reading.{slice, held-slice, starts-through, sound-fresh}
@@ -156,63 +156,30 @@ reads-own size first state answer run loans a =
     let r = to-end (a .reads) (fresh size first) h is in
     record { reader = fresh size first; starts = s; last = r .last; reads = r .reads; sound = r .sound-last; bytes = r .bytes }
 
--- The end of one of a reading's groups.
-split-more : {state final : List ℕ} {g : Image} {a b : List Image} {loan : Loan} {loans : List Loan} {rows : List (List ℕ)} {o : Left} →
-    ddsRead state (g .bytes) (g .number) (g .entries) (loan .rows) (loan .answer) ≡ o → o .refusal ≡ 0 → outcomeSeen o ≡ 0 → SplitC (readerLeft o) a b loans rows final →
-    SplitC state (g ∷ a) b (loan ∷ loans) (numbersIn (rowsRead o) ∷ rows) final
-split-more {loan} {o} e n z r =
+-- The end of one of a reading's groups: a group more before it, with the rows that its read lists.
+one-before : (Reads : Reading) {state next final : List ℕ} {g : Image} {a b : List Image} {loan : Loan} {loans : List Loan} {rows : List (List ℕ)} (listed : List (List ℕ)) →
+    ((lent : List Loan) (before : List (List ℕ)) (middle : List ℕ) → Reads next a lent before middle → Reads state (g ∷ a) (loan ∷ lent) (listed ++ before) middle) →
+    SplitC Reads next a b loans rows final → SplitC Reads state (g ∷ a) b (loan ∷ loans) (listed ++ rows) final
+one-before Reads {loan = loan} listed reads r =
     record {
       lent = loan ∷ r .lent;
       later = r .later;
-      before = numbersIn (rowsRead o) ∷ r .before;
+      before = listed ++ r .before;
       behind = r .behind;
       middle = r .middle;
       loans-are = ap {B = List Loan} (λ l. loan ∷ l) (r .loans-are);
-      rows-are = ap {B = List (List ℕ)} (λ l. numbersIn (rowsRead o) ∷ l) (r .rows-are);
-      accepts = AcceptsC.accepts-more e n z (r .accepts);
+      rows-are = append-assoc listed (r .before) (r .behind) ∙ ap (λ (l : List (List ℕ)). listed ++ l) (r .rows-are);
+      reads = reads (r .lent) (r .before) (r .middle) (r .reads);
       goes-on = r .goes-on;
     }
 
-pub split : {state final : List ℕ} {loans : List Loan} {rows : List (List ℕ)} (a b : List Image) → AcceptsC state (a ++ b) loans rows final → SplitC state a b loans rows final
+pub split : {state final : List ℕ} {loans : List Loan} {rows : List (List ℕ)} (a b : List Image) → AcceptsC state (a ++ b) loans rows final → SplitC AcceptsC state a b loans rows final
 split {state} {loans = loans} {rows = rows} [] b x =
-    record { lent = []; later = loans; before = []; behind = rows; middle = state; loans-are = refl; rows-are = refl; accepts = AcceptsC.accepts-none; goes-on = x }
-split (g ∷ a) b (AcceptsC.accepts-more e n z x) = split-more e n z (split a b x)
+    record { lent = []; later = loans; before = []; behind = rows; middle = state; loans-are = refl; rows-are = refl; reads = AcceptsC.accepts-none; goes-on = x }
+split (g ∷ a) b (AcceptsC.accepts-more {o = o} e n z x) = one-before AcceptsC (numbersIn (rowsRead o) ∷ []) (λ lent before middle y. AcceptsC.accepts-more e n z y) (split a b x)
 
--- .. or of a repeat.
-split-end-more : {state final : List ℕ} {g : Image} {a b : List Image} {loan : Loan} {loans : List Loan} {rows : List (List ℕ)} {o : Left} →
-    ddsRead state (g .bytes) (g .number) (g .entries) (loan .rows) (loan .answer) ≡ o → o .refusal ≡ 0 → outcomeSeen o ≡ 0 → SplitEndC (readerLeft o) a b loans rows final →
-    SplitEndC state (g ∷ a) b (loan ∷ loans) (numbersIn (rowsRead o) ∷ rows) final
-split-end-more {loan} {o} e n z r =
-    record {
-      lent = loan ∷ r .lent;
-      later = r .later;
-      before = numbersIn (rowsRead o) ∷ r .before;
-      behind = r .behind;
-      middle = r .middle;
-      loans-are = ap {B = List Loan} (λ l. loan ∷ l) (r .loans-are);
-      rows-are = ap {B = List (List ℕ)} (λ l. numbersIn (rowsRead o) ∷ l) (r .rows-are);
-      reads = ToEndC.end-more e n z (r .reads);
-      goes-on = r .goes-on;
-    }
-
-split-end-repeat : {state final : List ℕ} {g : Image} {a b : List Image} {loan : Loan} {loans : List Loan} {rows : List (List ℕ)} {o : Left} →
-    ddsRead state (g .bytes) (g .number) (g .entries) (loan .rows) (loan .answer) ≡ o → o .refusal ≡ 0 → outcomeSeen o ≡ 2 → SplitEndC (readerLeft o) a b loans rows final →
-    SplitEndC state (g ∷ a) b (loan ∷ loans) rows final
-split-end-repeat {loan} e n z r =
-    record {
-      lent = loan ∷ r .lent;
-      later = r .later;
-      before = r .before;
-      behind = r .behind;
-      middle = r .middle;
-      loans-are = ap {B = List Loan} (λ l. loan ∷ l) (r .loans-are);
-      rows-are = r .rows-are;
-      reads = ToEndC.end-repeat e n z (r .reads);
-      goes-on = r .goes-on;
-    }
-
-pub split-end : {state final : List ℕ} {loans : List Loan} {rows : List (List ℕ)} (a b : List Image) → ToEndC state (a ++ b) loans rows final → SplitEndC state a b loans rows final
+pub split-end : {state final : List ℕ} {loans : List Loan} {rows : List (List ℕ)} (a b : List Image) → ToEndC state (a ++ b) loans rows final → SplitC ToEndC state a b loans rows final
 split-end {state} {loans = loans} {rows = rows} [] b x =
     record { lent = []; later = loans; before = []; behind = rows; middle = state; loans-are = refl; rows-are = refl; reads = ToEndC.end-none; goes-on = x }
-split-end (g ∷ a) b (ToEndC.end-more e n z x) = split-end-more e n z (split-end a b x)
-split-end (g ∷ a) b (ToEndC.end-repeat e n z x) = split-end-repeat e n z (split-end a b x)
+split-end (g ∷ a) b (ToEndC.end-more {o = o} e n z x) = one-before ToEndC (numbersIn (rowsRead o) ∷ []) (λ lent before middle y. ToEndC.end-more e n z y) (split-end a b x)
+split-end (g ∷ a) b (ToEndC.end-repeat e n z x) = one-before ToEndC [] (λ lent before middle y. ToEndC.end-repeat e n z y) (split-end a b x)

@@ -76,7 +76,7 @@ module _ (size first : ℕ) (state answer : List ℕ) where
       AtEndC size first state answer beginning rest loans (a .rows) (a .final)
   c-at-each-end beginning rest loans b a =
       let p = split beginning rest (a .accepts) in
-      let c : AcceptedC size first state answer beginning (p .lent) = record { starts = a .starts; rows = p .before; final = p .middle; accepts = p .accepts } in
+      let c : AcceptedC size first state answer beginning (p .lent) = record { starts = a .starts; rows = p .before; final = p .middle; accepts = p .reads } in
       let e = each-before beginning rest b in
       let l = c-lawful beginning (p .lent) e c in
       let o = c-accepts beginning (p .lent) c in

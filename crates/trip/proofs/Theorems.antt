@@ -241,7 +241,7 @@ module _ (size first : ℕ) (state answer : List ℕ) where
       let w = exchanged size first (o .reader) (o .starts) a b c g h (x .rows) (o .last) (o .accepts) in
       let p = split a (g ∷ (b ++ (h ∷ c))) (x .accepts) in
       record {
-        accepted = (p .lent, record { starts = x .starts; rows = p .before; final = p .middle; accepts = p .accepts });
+        accepted = (p .lent, record { starts = x .starts; rows = p .before; final = p .middle; accepts = p .reads });
         refused = λ lent y rows told long.
             let q = accepts-own size first state answer a lent y in
             let r : Accepts (o .reader) a (y .rows) (q .last) = subst (λ (s : Reader). Accepts s a (y .rows) (q .last)) (same-start size first (q .reader) (o .reader) (q .starts) (o .starts)) (q .accepts) in

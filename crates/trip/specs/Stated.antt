@@ -73,8 +73,12 @@ pub record AcceptsOwn (size first : ℕ) (run : List Image) (loans : List Loan) 
   pub sound : readerSound last ≡ true
   pub bytes : readerBytes last ≡ final
 
--- A reading from C at the end of one of its groups: the loans and the rows up to there and behind it, and the state slice.
-pub record SplitC (state : List ℕ) (beginning rest : List Image) (loans : List Loan) (rows : List (List ℕ)) (final : List ℕ) : Type 0 where
+-- A reading from C, as `AcceptsC` and `ToEndC` are: from a state slice over a run, with loans and rows, to a state slice.
+abbrev pub Reading : Type 1
+Reading = List ℕ → List Image → List Loan → List (List ℕ) → List ℕ → Type 0
+
+-- .. at the end of one of its groups: the loans and the rows up to there and behind it, and the state slice.
+pub record SplitC (Reads : Reading) (state : List ℕ) (beginning rest : List Image) (loans : List Loan) (rows : List (List ℕ)) (final : List ℕ) : Type 0 where
   pub lent : List Loan
   pub later : List Loan
   pub before : List (List ℕ)
@@ -82,12 +86,12 @@ pub record SplitC (state : List ℕ) (beginning rest : List Image) (loans : List
   pub middle : List ℕ
   pub loans-are : lent ++ later ≡ loans
   pub rows-are : before ++ behind ≡ rows
-  pub accepts : AcceptsC state beginning lent before middle
-  pub goes-on : AcceptsC middle rest later behind final
+  pub reads : Reads state beginning lent before middle
+  pub goes-on : Reads middle rest later behind final
 
--- .. and there what the rows of the beginning give is a lawful layout of it, and the only one.
+-- An accepted run there: what the rows of the beginning give is a lawful layout of it, and the only one.
 pub record AtEndC (size first : ℕ) (state answer : List ℕ) (beginning rest : List Image) (loans : List Loan) (rows : List (List ℕ)) (final : List ℕ) : Type 0 where
-  pub parts : SplitC (readerLeft (ddsReaderStart size first state answer)) beginning rest loans rows final
+  pub parts : SplitC AcceptsC (readerLeft (ddsReaderStart size first state answer)) beginning rest loans rows final
   pub lays : Lays size first (itemsRead beginning (parts .before)) (begunRead beginning (parts .before)) beginning
   pub only : (i : List Item) (b : List ℕ) → Lays size first i b beginning → (i ≡ itemsRead beginning (parts .before)) × (b ≡ begunRead beginning (parts .before))
   pub ends : EndsWith size first beginning (parts .before) (begunRead beginning (parts .before)) (readerOf (parts .middle))
@@ -109,21 +113,10 @@ pub record ReadsOwn (size first : ℕ) (run : List Image) (loans : List Loan) (r
   pub sound : readerSound last ≡ true
   pub bytes : readerBytes last ≡ final
 
--- .. at the end of one of its groups or of a repeat.
-pub record SplitEndC (state : List ℕ) (beginning rest : List Image) (loans : List Loan) (rows : List (List ℕ)) (final : List ℕ) : Type 0 where
-  pub lent : List Loan
-  pub later : List Loan
-  pub before : List (List ℕ)
-  pub behind : List (List ℕ)
-  pub middle : List ℕ
-  pub loans-are : lent ++ later ≡ loans
-  pub rows-are : before ++ behind ≡ rows
-  pub reads : ToEndC state beginning lent before middle
-  pub goes-on : ToEndC middle rest later behind final
-
--- .. and there what the rows of the beginning give is a lawful layout of it, its repeats taken out, and the only one.
+-- A run that is read to its end, at the end of one of its groups or of a repeat: what the rows of the beginning give is a lawful layout
+-- of it, its repeats taken out, and the only one.
 pub record AtEndAmongC (size first : ℕ) (state answer : List ℕ) (beginning rest : List Image) (loans : List Loan) (rows : List (List ℕ)) (final : List ℕ) : Type 0 where
-  pub parts : SplitEndC (readerLeft (ddsReaderStart size first state answer)) beginning rest loans rows final
+  pub parts : SplitC ToEndC (readerLeft (ddsReaderStart size first state answer)) beginning rest loans rows final
   pub lays : Lays size first (itemsRead (withoutRepeats beginning) (parts .before)) (begunRead (withoutRepeats beginning) (parts .before)) (withoutRepeats beginning)
   pub only : (i : List Item) (b : List ℕ) → Lays size first i b (withoutRepeats beginning) →
       (i ≡ itemsRead (withoutRepeats beginning) (parts .before)) × (b ≡ begunRead (withoutRepeats beginning) (parts .before))
