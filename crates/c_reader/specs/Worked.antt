@@ -16,7 +16,8 @@ startsShown =
     ∷ ddsReaderStart 64 1 (replicate 20 0xEE) (replicate 24 0xEE)
     ∷ []
 
--- L, the next number, free, a sum of 0, b4 clear and no group accepted; the answer of zeros. Refused, the state stays; by length, all stays.
+-- L, the next number, free, a sum of 0, b4 clear and no group accepted; the answer of zeros. Refused, the state stays; by length,
+-- all stays.
 abbrev pub startsExpected : List Left
 startsExpected =
     left 0 ((0x00 ∷ 0x01 ∷ 0xEE ∷ 0xA8 ∷ 0x00 ∷ 0x00 ∷ 0x02 ∷ 0x01 ∷ replicate 16 0) ∷ []) (replicate 24 0)

@@ -10,7 +10,8 @@ use Rattle.reader.specs.declared.ReadAnswer.the-variants as answer
 use Rattle.reader.specs.Answer.{readCall, groupRows, rowsLeft}
 use Rattle.layout.specs.Layout.{Image}
 
--- From a state over a run to a state, each group accepted. Each read is lent rows of any length, `old`, and leaves the rows that are listed.
+-- From a state over a run to a state, each group accepted. Each read is lent rows of any length, `old`, and leaves the rows that
+-- are listed.
 pub data Accepts : Reader → List Image → List (List ℕ) → Reader → Type 0 where
   accepts-none : {s : Reader} → Accepts s [] [] s
   accepts-more : {s t u : Reader} {g : Image} {gs : List Image} {rows : List (List ℕ)} (old : List ℕ) →

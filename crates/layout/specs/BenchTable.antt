@@ -159,7 +159,8 @@ freeDesk lent number = desk (freshState size number) (replicate size lent)
 abbrev pub warnedDesk : ℕ → ℕ → Desk
 warnedDesk lent number = desk (warnState true (freshState size number)) (replicate size lent)
 
--- A reader before the group of this number, and one that stands free with b4 clear.
+-- A reader before the group of this number, and one that stands free with b4 clear. Runs begin at number 1, so behind it a group was
+-- accepted.
 abbrev pub readerAt : (number : ℕ) → Phase → (b4 : Bool) (sum : ℕ) → Reader
 readerAt number p b4 sum = record { size = size; next = number; phase = p; warned = b4; accepted = leb 2 number; sum = sum }
 

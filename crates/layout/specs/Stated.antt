@@ -27,8 +27,8 @@ b4Left size before [] = before
 b4Left size before (g ∷ gs) = b4Left size (b4Of (entryAt (g .bytes) (entryOffset size (g .entries)) .flag)) gs
 
 -- "Its state is L, the next number, free / inside / owed, and the sum of parts so far", and b4, which "a fresh start" clears, and
--- whether a group was accepted: after a run of groups of this size from this first number, where its rows leave these bytes of a record. The pieces that the rows give
--- tell inside from owed.
+-- whether a group was accepted: after a run of groups of this size from this first number, where its rows leave these bytes of a
+-- record. The pieces that the rows give tell inside from owed.
 pub record EndsWith (size first : ℕ) (run : List Image) (rows : List (List ℕ)) (begun : List ℕ) (final : Reader) : Type 0 where
   pub sized : final .size ≡ size
   pub next : final .next ≡ first + length run

@@ -1,6 +1,5 @@
--- What the theorems of a writer state where it is more than one fact: a run that gives an account back, alone
--- or among repeats, a run that was ended,
--- and where the totals stand of records that span groups.
+-- What the theorems of a writer state where it is more than one fact: a run that gives an account back, alone or among repeats, a
+-- run that was ended, and where the totals stand of records that span groups.
 -- Assumes nothing.
 use Prim.Native.Nat.{ℕ, _≤_}
 use mathlib.Core.List.{List, [], _∷_, _++_}

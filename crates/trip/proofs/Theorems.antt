@@ -59,9 +59,9 @@ pub c-repeat-stays : (state group : List ℕ) (number n : ℕ) (rows answer : Li
     outcomeSeen (ddsRead state group number n rows answer) ≡ 2 → ddsRead state group number n rows answer ≡ repeatLeft state rows
 c-repeat-stays state group number n rows answer z e = read-repeated state group number n rows answer (read-repeats state group number n rows answer .0 (z, e))
 
--- "three 32-bit numbers per entry: kind, data offset reached before this entry, count. Rows after the n-th are untouched." Of every
--- read from C that returns 0 and tells outcome 0, whatever is lent: row k is kind, data before and count of the entry at L − 32 − 4k, each in four
--- bytes, and every byte behind row n stays.
+-- "three 32-bit numbers per entry: kind, data offset reached before this entry, count. Rows after the n-th are untouched." Of
+-- every read from C that returns 0 and tells outcome 0, whatever is lent: row k is kind, data before and count of the entry at L
+-- − 32 − 4k, each in four bytes, and every byte behind row n stays.
 pub c-rows-are : (state group : List ℕ) (number n : ℕ) (rows answer : List ℕ) → ddsRead state group number n rows answer .refusal ≡ 0 →
     outcomeSeen (ddsRead state group number n rows answer) ≡ 0 → RowsLeft (readerOf state .size) n group rows (rowsRead (ddsRead state group number n rows answer))
 c-rows-are state group number n rows answer z e =

@@ -60,11 +60,11 @@ finishedSeen o = Finished (writerOf (writerLeft o))
 abbrev pub closedSeen : Left → WriteAnswer
 closedSeen o = Closed (writerOf (writerLeft o)) (numberSeen o) (entriesSeen o) (takenSeen o)
 
--- A writing from C: the state slice and the group as they are now, the run closed so far, the account at the last close, and
--- the account now. The outcome is 0 where a call finished its work, 1 where it closed the group. The state slice at the start and every answer slice may be any: one of another length than its own is
--- refused. A call that returned a number other than 0 leaves the account as it was, whatever its `warn` and whatever group it was
--- lent. Between calls the firmware may change the group's last 32 bytes. After a close the next call may come with any buffer of the
--- right length.
+-- A writing from C: the state slice and the group as they are now, the run closed so far, the account at the last close, and the
+-- account now. The outcome is 0 where a call finished its work, 1 where it closed the group. The state slice at the start and
+-- every answer slice may be any: one of another length than its own is refused. A call that returned a number other than 0 leaves
+-- the account as it was, whatever its `warn` and whatever group it was lent. Between calls the firmware may change the group's
+-- last 32 bytes. After a close the next call may come with any buffer of the right length.
 pub data WroteC (size first : ℕ) : List ℕ → List ℕ → List Image → Account → Account → Type 0 where
   begins : {o : Left} (state answer group : List ℕ) → ddsWriterStart size first state answer ≡ o → o .refusal ≡ 0 → length group ≡ size →
       WroteC size first (writerLeft o) group [] blank blank
