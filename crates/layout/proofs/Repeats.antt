@@ -4,10 +4,11 @@ use Prim.Native.Nat.{ℕ, _+_, _*_, _≤_}
 use native.Mathlib.Omega.{arith}
 use mathlib.Core.List.{List, [], _∷_, _++_, append-assoc}
 use mathlib.Core.Bool.{Bool, true, false, cond, false≢true}
-use mathlib.Core.Path.{_≡_, refl, sym, ap, _∙_}
+use mathlib.Core.Path.{_≡_, refl, sym, ap, _∙_, subst}
+use mathlib.Core.Logic.{_⊎_, inl, inr}
 use lib.Dec.{eqb}
 use lib.ListN.{length}
-use borrow.Author.Tests.{eqb-true, eq-eqb, ne-eqb}
+use borrow.Author.Tests.{eqb-true, eqb-false, eq-eqb, ne-eqb}
 use Rattle.reader.specs.declared.Reader.{Reader}
 use Rattle.reader.specs.declared.ReadAnswer.the-variants as answer
 use Rattle.reader.specs.Answer.{sound, repeats, readCall, groupRows, rowsLeft}
@@ -19,10 +20,12 @@ use Rattle.layout.specs.Items.Each.{each-none, each-more}
 use Rattle.layout.specs.Layout.{Image, Run}
 use Rattle.layout.specs.Layout.Run.{run-none, run-more}
 use Rattle.layout.specs.Repeats.{behind, withoutRepeats, OfSize}
-use Rattle.layout.specs.Accepting.{Accepts, ToEnd, Lent}
+use Rattle.layout.specs.Accepting.{Accepts, ToEnd, Lent, LentBehind, LentAmong}
 use Rattle.layout.specs.Accepting.Accepts.{accepts-none, accepts-more}
 use Rattle.layout.specs.Accepting.ToEnd.{end-none, end-more, end-repeat}
 use Rattle.layout.specs.Accepting.Lent.{lent-none, lent-more}
+use Rattle.layout.specs.Accepting.LentBehind.{behind-none, behind-more}
+use Rattle.layout.specs.Accepting.LentAmong.{among-none, among-more}
 
 -- Behind a group of the number `last` that was accepted.
 behind-repeat : {last : ℕ} (g : Image) (gs : List Image) → g .number ≡ last → behind last (g ∷ gs) ≡ behind last gs
@@ -54,7 +57,7 @@ repeats-out e (end-more {s} {t} {g} {gs} old h x) =
     accepts-more old h (out-behind (g .number) n x)
 repeats-out e (end-repeat {s} {g} old h x) = absurd (false≢true (sym e ∙ repeat-last s s (g .bytes) (g .number) (g .entries) (length old) h .1))
 
--- The other way round, with any row buffers that are long enough.
+-- The other way round, with any row buffers that are long enough where a group is no repeat.
 pub record Through (s : Reader) (run : List Image) (lent : List (List ℕ)) (u : Reader) : Type 0 where
   pub rows : List (List ℕ)
   pub reads : ToEnd s run lent rows u
@@ -101,27 +104,45 @@ left-by s t g room e =
     }
 
 in-behind : {size : ℕ} {t u : Reader} {rows : List (List ℕ)} (run : List Image) (lent : List (List ℕ)) (last : ℕ) → sound t ≡ true → t .accepted ≡ true → t .next ≡ last + 1 → t .size ≡ size →
-    Each (OfSize size) run → Lent run lent → Accepts t (behind last run) rows u → Through t run lent u
+    Each (OfSize size) run → LentBehind last run lent → Accepts t (behind last run) rows u → Through t run lent u
 unfolding behind
-in-behind [] lent last h k n z each-none lent-none accepts-none = record { rows = []; reads = end-none }
-in-behind {size} {t} {u} {rows} (g ∷ gs) (old ∷ lent) last h k n z (each-more long sizes) (lent-more fits more) x = by (eqb (g .number) last) refl x (λ (y : Accepts t (behind last gs) rows u). in-behind gs lent last h k n z sizes more y)
+in-behind [] lent last h k n z each-none behind-none accepts-none = record { rows = []; reads = end-none }
+in-behind {size} {t} {u} {rows} (g ∷ gs) (old ∷ lent) last h k n z (each-more long sizes) (behind-more fits more) x =
+    by (eqb (g .number) last) refl x
+    (λ (e : g .number ≡ last) (y : Accepts t (behind last gs) rows u). in-behind gs lent last h k n z sizes (subst (λ (m : ℕ). LentBehind m gs lent) e more) y)
     (λ (v : Reader) (rest : List (List ℕ)) (l : Left t v g) (y : Accepts v (behind (g .number) gs) rest u). in-behind gs lent (g .number) (l .keeps) (l .said) (l .raised) (l .sized ∙ z) sizes more y)
   where
-    kept-on : {more-rows : List (List ℕ)} → Accepts t (g ∷ behind (g .number) gs) more-rows u →
-        ((v : Reader) (rest : List (List ℕ)) → Left t v g → Accepts v (behind (g .number) gs) rest u → Through v gs lent u) → Through t (g ∷ gs) (old ∷ lent) u
-    kept-on (accepts-more {t = v} {rows = rest} other e y) go = more-through old (any-room t v g (length other) (length old) e fits) (go v rest (left-by t v g (length other) e) y)
+    enough : (g .number ≡ last → ⊥) → (g .number ≡ last) ⊎ (3 * g .entries ≤ length old) → 3 * g .entries ≤ length old
+    enough other (inl e) = absurd (other e)
+    enough other (inr f) = f
 
-    by : (b : Bool) → eqb (g .number) last ≡ b → Accepts t (cond b (behind last gs) (g ∷ behind (g .number) gs)) rows u → (Accepts t (behind last gs) rows u → Through t gs lent u) →
+    kept-on : {more-rows : List (List ℕ)} → 3 * g .entries ≤ length old → Accepts t (g ∷ behind (g .number) gs) more-rows u →
         ((v : Reader) (rest : List (List ℕ)) → Left t v g → Accepts v (behind (g .number) gs) rest u → Through v gs lent u) → Through t (g ∷ gs) (old ∷ lent) u
-    by true e y same go = repeat-through old h k (long ∙ sym z) (omega (arith, eqb-true (g .number) last e)) (same y)
-    by false e y same go = kept-on y go
+    kept-on f (accepts-more {t = v} {rows = rest} other e y) go = more-through old (any-room t v g (length other) (length old) e f) (go v rest (left-by t v g (length other) e) y)
 
-pub repeats-in : {s u : Reader} {rows : List (List ℕ)} (run : List Image) (lent : List (List ℕ)) → Each (OfSize (s .size)) run → Lent run lent → Accepts s (withoutRepeats run) rows u → Through s run lent u
+    by : (b : Bool) → eqb (g .number) last ≡ b → Accepts t (cond b (behind last gs) (g ∷ behind (g .number) gs)) rows u →
+        (g .number ≡ last → Accepts t (behind last gs) rows u → Through t gs lent u) →
+        ((v : Reader) (rest : List (List ℕ)) → Left t v g → Accepts v (behind (g .number) gs) rest u → Through v gs lent u) → Through t (g ∷ gs) (old ∷ lent) u
+    by true e y same go =
+        let is = eqb-true (g .number) last e in
+        repeat-through old h k (long ∙ sym z) (omega arith) (same is y)
+    by false e y same go = kept-on (enough (eqb-false (g .number) last e) fits) y go
+
+pub repeats-in : {s u : Reader} {rows : List (List ℕ)} (run : List Image) (lent : List (List ℕ)) → Each (OfSize (s .size)) run → LentAmong run lent → Accepts s (withoutRepeats run) rows u → Through s run lent u
 unfolding withoutRepeats
-repeats-in [] lent each-none lent-none accepts-none = record { rows = []; reads = end-none }
-repeats-in {s} (g ∷ gs) (old ∷ lent) (each-more long sizes) (lent-more fits more) (accepts-more {t = v} other e y) =
+repeats-in [] lent each-none among-none accepts-none = record { rows = []; reads = end-none }
+repeats-in {s} (g ∷ gs) (old ∷ lent) (each-more long sizes) (among-more fits more) (accepts-more {t = v} other e y) =
     let l = left-by s v g (length other) e in
     more-through old (any-room s v g (length other) (length old) e fits) (in-behind gs lent (g .number) (l .keeps) (l .said) (l .raised) (l .sized) sizes more y)
+
+-- Row buffers that are long enough for every group are so for those that are no repeats.
+lent-behind : {run : List Image} {lent : List (List ℕ)} (last : ℕ) → Lent run lent → LentBehind last run lent
+lent-behind last lent-none = behind-none
+lent-behind last (lent-more {g = g} fits more) = behind-more (inr fits) (lent-behind (g .number) more)
+
+pub lent-among : {run : List Image} {lent : List (List ℕ)} → Lent run lent → LentAmong run lent
+lent-among lent-none = among-none
+lent-among (lent-more {g = g} fits more) = among-more fits (lent-behind (g .number) more)
 
 -- What holds of each group holds of those that are no repeats.
 each-behind : {P : Image → Type 0} (last : ℕ) (run : List Image) → Each P run → Each P (behind last run)

@@ -15,7 +15,7 @@ use Rattle.reader.proofs.Accepted.{begun-at}
 use Rattle.layout.specs.Items.{Item, Each}
 use Rattle.layout.specs.Layout.{Image, Lays}
 use Rattle.layout.specs.Repeats.{withoutRepeats, OfSize}
-use Rattle.layout.specs.Accepting.{Accepts, ToEnd, Lent}
+use Rattle.layout.specs.Accepting.{Accepts, ToEnd, Lent, LentAmong}
 use Rattle.layout.specs.Counts.{AddsUp}
 use Rattle.layout.specs.EarlyWarning.{BeginsOnce}
 use Rattle.layout.specs.Reading.{OfBytes, itemsRead, begunRead}
@@ -26,7 +26,7 @@ use Rattle.layout.specs.BenchTable.{Case, shown, benchTable}
 use Rattle.layout.proofs.OnlyOne.{one-reading, buffersFor, enough}
 use Rattle.layout.proofs.Order.{first-of, size-after, next-after, split, each-before, out-of-order}
 use Rattle.layout.proofs.Once as once
-use Rattle.layout.proofs.Repeats.{repeats-out, repeats-in, each-without, split-end, behind-first, no-lower, none-out}
+use Rattle.layout.proofs.Repeats.{repeats-out, repeats-in, lent-among, each-without, split-end, behind-first, no-lower, none-out}
 use Rattle.layout.proofs.Returned as written
 use Rattle.layout.proofs.Ended as endings
 use Rattle.layout.proofs.TotalKept as totals
@@ -49,8 +49,8 @@ module _ (size first : ℕ) (s : Reader) (begins : readerStartCall size first �
   -- "Freedoms of a lawful layout: where a record is broken, where a group ends early with a skip while free, a skip after a
   -- last", "one entry of the whole run, or none, where b4 begins", "all gap bytes, the last 32 bytes, and the first group number".
   -- Whichever are taken, the run is accepted to its end, with any repeats of L bytes in it, whatever they hold, and with any row
-  -- buffers that are long enough.
-  pub complete : (i : List Item) (b : List ℕ) (run : List Image) (lent : List (List ℕ)) → Lays size first i b (withoutRepeats run) → Each (OfSize size) run → Lent run lent →
+  -- buffers, long enough where a group is no repeat.
+  pub complete : (i : List Item) (b : List ℕ) (run : List Image) (lent : List (List ℕ)) → Lays size first i b (withoutRepeats run) → Each (OfSize size) run → LentAmong run lent →
       ThroughWith s run lent b
   complete i b run lent l z e =
       let is = sym (begun-at size first s begins .1) in
@@ -76,7 +76,7 @@ module _ (size first : ℕ) (s : Reader) (begins : readerStartCall size first �
       ((lent : List (List ℕ)) × ((rows : List (List ℕ)) × ((final : Reader) × ToEnd s run lent rows final))) ↔ ((i : List Item) × ((b : List ℕ) × Lays size first i b (withoutRepeats run)))
   exactly run b z = (
     λ x. (itemsRead (withoutRepeats run) (x .1 .0), (begunRead (withoutRepeats run) (x .1 .0), lawful run (x .0) (x .1 .0) (x .1 .1 .0) b (x .1 .1 .1))),
-    λ x. let a = complete (x .0) (x .1 .0) run (buffersFor run) (x .1 .1) z (enough run) in (buffersFor run, (a .rows, (a .final, a .reads))),
+    λ x. let a = complete (x .0) (x .1 .0) run (buffersFor run) (x .1 .1) z (lent-among (enough run)) in (buffersFor run, (a .rows, (a .final, a .reads))),
   )
 
   -- "fills three 32-bit numbers per entry: kind, data offset reached before this entry, count": those numbers and the bytes give
@@ -159,7 +159,7 @@ module _ (size first : ℕ) (w : Desk) (run : List Image) (closed now : Account)
   returned lent e = written.gives-back x e
 
   -- "Drives may record one Basic Group several times": handed in with any repeats of L bytes, the groups give back the same.
-  pub returned-among : (handed : List Image) (lent : List (List ℕ)) → withoutRepeats handed ≡ run → Each (OfSize size) handed → Lent handed lent →
+  pub returned-among : (handed : List Image) (lent : List (List ℕ)) → withoutRepeats handed ≡ run → Each (OfSize size) handed → LentAmong handed lent →
       GivesBackAmong size first handed lent closed
   returned-among handed lent same z e =
       let g = returned (buffersFor run) (enough run) in

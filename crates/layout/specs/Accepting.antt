@@ -4,6 +4,7 @@
 use Prim.Native.Nat.{ℕ, _*_, _≤_}
 use mathlib.Core.List.{List, [], _∷_}
 use mathlib.Core.Path.{_≡_}
+use mathlib.Core.Logic.{_⊎_}
 use lib.ListN.{length}
 use Rattle.reader.specs.declared.Reader.{Reader}
 use Rattle.reader.specs.declared.ReadAnswer.the-variants as answer
@@ -33,6 +34,17 @@ pub data ToEnd : Reader → List Image → List (List ℕ) → List (List ℕ) �
 pub data Lent : List Image → List (List ℕ) → Type 0 where
   lent-none : Lent [] []
   lent-more : {g : Image} {gs : List Image} {old : List ℕ} {more : List (List ℕ)} → 3 * g .entries ≤ length old → Lent gs more → Lent (g ∷ gs) (old ∷ more)
+
+-- Row buffers for a run with repeats: the same, but a repeat's may be any. Behind a group of this number one that bears it is a repeat.
+pub data LentBehind : ℕ → List Image → List (List ℕ) → Type 0 where
+  behind-none : {last : ℕ} → LentBehind last [] []
+  behind-more : {last : ℕ} {g : Image} {gs : List Image} {old : List ℕ} {more : List (List ℕ)} → (g .number ≡ last) ⊎ (3 * g .entries ≤ length old) →
+      LentBehind (g .number) gs more → LentBehind last (g ∷ gs) (old ∷ more)
+
+pub data LentAmong : List Image → List (List ℕ) → Type 0 where
+  among-none : LentAmong [] []
+  among-more : {g : Image} {gs : List Image} {old : List ℕ} {more : List (List ℕ)} → 3 * g .entries ≤ length old → LentBehind (g .number) gs more →
+      LentAmong (g ∷ gs) (old ∷ more)
 
 -- The row buffers that the reads of an accepted run were lent.
 unfoldable pub lentTo : {s t : Reader} {run : List Image} {rows : List (List ℕ)} → Accepts s run rows t → List (List ℕ)

@@ -2,6 +2,7 @@
 -- hold the same numbers.
 -- Assumes nothing.
 use mathlib.Core.Path.{_≡_, refl, sym, ap, _∙_, subst}
+use mathlib.Core.Logic.{_⊎_, inl, inr}
 use mathlib.Core.Bool.{Bool, true, false, _||_}
 use mathlib.Core.List.{List, [], _∷_}
 use Prim.Native.Nat.{ℕ, _*_, _/_, _≤_}
@@ -23,15 +24,15 @@ use Rattle.reader.specs.declared.ReadAnswer.the-variants as read
 use Rattle.reader.specs.Answer.{sound, readerStartCall, readCall, groupRows, rowsLeft}
 use Rattle.reader.proofs.Sound.{sound-again}
 use Rattle.layout.specs.Layout.{Image}
-use Rattle.layout.specs.Accepting.{Accepts, ToEnd, Lent, lentTo}
-use Rattle.reader.proofs.Accepted.{begun-at, repeated}
+use Rattle.layout.specs.Accepting.{Accepts, ToEnd, Lent, LentBehind, LentAmong, lentTo}
+use Rattle.reader.proofs.Accepted.{begun-at, repeated, accepted as passed}
 use Rattle.slices.specs.Call.{Left, left, answerLength, lengthsKept, called}
 use Rattle.states.specs.States.{readerLength, readerOf, readerNumbers}
 use Rattle.c_reader.specs.Calls.{ddsReaderStart, ddsRead}
 use Rattle.c_reader.specs.Accepted.{repeatLeft}
 use Rattle.c_reader.proofs.Theorems.{read-repeated}
 use Rattle.states.proofs.StateLaws.{reader-of-bytes, meant-reader, sound-reader-fits}
-use Rattle.trip.specs.ThroughC.{Loan, LentC, numbersLent, AcceptsC, ToEndC}
+use Rattle.trip.specs.ThroughC.{Loan, LentC, LentBehindC, LentAmongC, numbersLent, AcceptsC, ToEndC}
 use Rattle.trip.proofs.SmallRows.{small-rows}
 
 -- The bytes of a reader's state.
@@ -90,6 +91,20 @@ enough-lent LentC.lent-none = Lent.lent-none
 enough-lent (LentC.lent-more {g} {gs} {loan} h l r) =
     let long : 3 * g .entries ≤ length (numbersIn (loan .rows)) = omega (arith, length-numbers (loan .rows)) in
     Lent.lent-more long (enough-lent r)
+
+behind-lent : {last : ℕ} {run : List Image} {loans : List Loan} → LentBehindC last run loans → LentBehind last run (numbersLent loans)
+behind-lent LentBehindC.behind-none = LentBehind.behind-none
+behind-lent {last} (LentBehindC.behind-more {g = g} {loan = loan} f l r) = LentBehind.behind-more (by f) (behind-lent r)
+  where
+    by : (g .number ≡ last) ⊎ (12 * g .entries ≤ length (loan .rows)) → (g .number ≡ last) ⊎ (3 * g .entries ≤ length (numbersIn (loan .rows)))
+    by (inl e) = inl e
+    by (inr h) = inr (omega (arith, length-numbers (loan .rows)))
+
+pub among-lent : {run : List Image} {loans : List Loan} → LentAmongC run loans → LentAmong run (numbersLent loans)
+among-lent LentAmongC.among-none = LentAmong.among-none
+among-lent (LentAmongC.among-more {g = g} {loan = loan} h l r) =
+    let long : 3 * g .entries ≤ length (numbersIn (loan .rows)) = omega (arith, length-numbers (loan .rows)) in
+    LentAmong.among-more long (behind-lent r)
 
 -- A read that the reader accepts, made through the slices: what it leaves, and the numbers of its rows.
 record Made (s t : Reader) (g : Image) (loan : Loan) (old : List ℕ) : Type 0 where
@@ -154,16 +169,43 @@ again-to-end : {state : List ℕ} {g : Image} {loan : Loan} {gs : List Image} {l
 unfolding numberAt inBytes bytesOf
 again-to-end d a = ToEndC.end-repeat d refl refl a
 
-pub through-to-end : {s t : Reader} {run : List Image} {lent rows : List (List ℕ)} {loans : List Loan} → ToEnd s run lent rows t → sound s ≡ true → LentC run loans →
+-- Answer slices of their length for the reads of a run.
+data Answering : List Loan → Type 0 where
+  answers-none : Answering []
+  answers-more : {loan : Loan} {loans : List Loan} → length (loan .answer) ≡ answerLength → Answering loans → Answering (loan ∷ loans)
+
+answering-behind : {last : ℕ} {run : List Image} {loans : List Loan} → LentBehindC last run loans → Answering loans
+answering-behind LentBehindC.behind-none = answers-none
+answering-behind (LentBehindC.behind-more f l r) = answers-more l (answering-behind r)
+
+answering : {run : List Image} {loans : List Loan} → LentAmongC run loans → Answering loans
+answering LentAmongC.among-none = answers-none
+answering (LentAmongC.among-more f l r) = answers-more l (answering-behind r)
+
+-- An accepted read has row slices that are long enough.
+long-enough : (s t : Reader) (g : Image) (loan : Loan) (old : List ℕ) → old ≡ numbersIn (loan .rows) → readCall s (g .bytes) (g .number) (g .entries) (length old) ≡ read.Accepted t →
+    12 * g .entries ≤ length (loan .rows)
+long-enough s t g loan old same e =
+    let p = passed s t (g .bytes) (g .number) (g .entries) (length old) e in
+    omega (arith, p .ready .rows, ap length same, length-numbers (loan .rows))
+
+reads-through : {s t : Reader} {run : List Image} {lent rows : List (List ℕ)} {loans : List Loan} → ToEnd s run lent rows t → sound s ≡ true → Answering loans →
     lent ≡ numbersLent loans → ToEndC (slice s) run loans rows (slice t)
-through-to-end ToEnd.end-none h LentC.lent-none e = ToEndC.end-none
-through-to-end (ToEnd.end-more {s} {t} {g = g} {lent = lent} old e a) h (LentC.lent-more {loan = loan} {loans = loans} long l r) q =
+reads-through ToEnd.end-none h answers-none e = ToEndC.end-none
+reads-through ToEnd.end-none h (answers-more l r) e = let z : _≡_ {A = ℕ} 0 1 = cc in absurd (omega arith)
+reads-through (ToEnd.end-more old e a) h answers-none q = let z : _≡_ {A = ℕ} 0 1 = cc in absurd (omega arith)
+reads-through (ToEnd.end-more {s} {t} {g = g} {lent = lent} old e a) h (answers-more {loan = loan} {loans = loans} l r) q =
     let same : old ≡ numbersIn (loan .rows) = cc in
     let rest : lent ≡ numbersLent loans = cc in
-    more-to-end (made s t g loan old h long l same e) (through-to-end a (sound-again s t (g .bytes) (g .number) (g .entries) (length old) e) r rest)
-through-to-end (ToEnd.end-repeat {s} {g = g} {lent = lent} old e a) h (LentC.lent-more {loan = loan} {loans = loans} long l r) q =
+    more-to-end (made s t g loan old h (long-enough s t g loan old same e) l same e) (reads-through a (sound-again s t (g .bytes) (g .number) (g .entries) (length old) e) r rest)
+reads-through (ToEnd.end-repeat old e a) h answers-none q = let z : _≡_ {A = ℕ} 0 1 = cc in absurd (omega arith)
+reads-through (ToEnd.end-repeat {s} {g = g} {lent = lent} old e a) h (answers-more {loan = loan} {loans = loans} l r) q =
     let rest : lent ≡ numbersLent loans = cc in
-    again-to-end (repeated-through s g loan old h l e) (through-to-end a h r rest)
+    again-to-end (repeated-through s g loan old h l e) (reads-through a h r rest)
+
+pub through-to-end : {s t : Reader} {run : List Image} {rows : List (List ℕ)} {loans : List Loan} → ToEnd s run (numbersLent loans) rows t → sound s ≡ true → LentAmongC run loans →
+    ToEndC (slice s) run loans rows (slice t)
+through-to-end a h l = reads-through a h (answering l) refl
 
 pub sound-to-end : {s t : Reader} {run : List Image} {lent rows : List (List ℕ)} → ToEnd s run lent rows t → sound s ≡ true → sound t ≡ true
 sound-to-end ToEnd.end-none h = h

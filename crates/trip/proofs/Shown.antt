@@ -7,6 +7,7 @@ use native.Mathlib.Omega.{arith}
 use mathlib.Core.List.{List, [], _∷_}
 use mathlib.Core.Bool.{true, false}
 use mathlib.Core.Path.{_≡_, refl}
+use mathlib.Core.Logic.{inl, inr}
 use borrow.Author.Tests.{leb-true}
 use lib.ListN.{length, replicate}
 use Rattle.numbers.specs.Numbers.{inBytes}
@@ -24,7 +25,7 @@ use Rattle.layout.proofs.Shown.{opens as layoutOpens, groupOf, runOf, equalMidd
 use Rattle.slices.specs.Call.{lengthsKept, called}
 use Rattle.states.specs.States.{writerOf, writerMeant}
 use Rattle.c_writer.specs.Calls.{ddsWriterStart, written, ddsRecord, ddsSeparator, ddsEnd}
-use Rattle.trip.specs.ThroughC.{callC, recordC, endC, askedC, Loan, LentC, WroteC}
+use Rattle.trip.specs.ThroughC.{callC, recordC, endC, askedC, Loan, LentC, LentBehindC, LentAmongC, WroteC}
 use Rattle.trip.specs.ThroughC.WroteC.{begins, goes-on, closes, refused}
 use Rattle.trip.specs.Stated.{GivesBackC, AcceptedC, ReadToEndC, OutOfOrderC}
 use Rattle.trip.proofs.Once as once
@@ -100,9 +101,9 @@ foreign-exchanged x y z w =
     c-exchanged 64 1 (replicate 24 0xEE) (replicate 24 0xEE) (groupOf 1 99 (aStart (1 ∷ []) ∷ []) ∷ []) [] (groupOf 4 93 (aLast (4 ∷ []) ∷ aTotal 6 ∷ []) ∷ [])
     (groupOf 2 97 (aMiddle (x ∷ y ∷ []) ∷ [])) (groupOf 3 95 (aMiddle (z ∷ w ∷ []) ∷ [])) _ (foreign x y z w)
 
--- The same run with its second group handed in three times: what comes again holds other bytes, has no entries and is lent no rows.
+-- The same run with its second group handed in three times: what comes again holds other bytes, says 9 entries and is lent no rows.
 abbrev again : Image
-again = record { number = 2; entries = 0; bytes = replicate 64 0xEE }
+again = record { number = 2; entries = 9; bytes = replicate 64 0xEE }
 
 abbrev handedIn : (x y z w : ℕ) → List Image
 handedIn x y z w =
@@ -114,9 +115,9 @@ unfolding layoutOpens groupOf runOf withoutRepeats behind
 foreign-among x y z w =
     c-complete 64 1 (replicate 24 0xEE) (replicate 24 0xEE) _ _ (handedIn x y z w) (loan 24 ∷ loan 24 ∷ loan 0 ∷ loan 0 ∷ loan 25 ∷ loan 36 ∷ []) (middles-shown x y z w .lays)
     (each-more refl (each-more refl (each-more refl (each-more refl (each-more refl (each-more refl each-none)))))) refl refl
-    (LentC.lent-more (leb-true _ _ refl) refl
-    (LentC.lent-more (leb-true _ _ refl) refl
-    (LentC.lent-more (leb-true _ _ refl) refl
-    (LentC.lent-more (leb-true _ _ refl) refl
-    (LentC.lent-more (leb-true _ _ refl) refl
-    (LentC.lent-more (leb-true _ _ refl) refl LentC.lent-none))))))
+    (LentAmongC.among-more (leb-true _ _ refl) refl
+    (LentBehindC.behind-more (inr (leb-true _ _ refl)) refl
+    (LentBehindC.behind-more (inl refl) refl
+    (LentBehindC.behind-more (inl refl) refl
+    (LentBehindC.behind-more (inr (leb-true _ _ refl)) refl
+    (LentBehindC.behind-more (inr (leb-true _ _ refl)) refl LentBehindC.behind-none))))))

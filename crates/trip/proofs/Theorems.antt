@@ -3,7 +3,7 @@
 -- Assumes nothing.
 use Prim.Native.Nat.{ℕ, _/_}
 use mathlib.Core.List.{List, _∷_, _++_}
-use mathlib.Core.Path.{_≡_, refl, sym, ap, _∙_, subst}
+use mathlib.Core.Path.{_≡_, sym, ap, _∙_, subst}
 use mathlib.Core.Logic.{_↔_, _⊎_, inl, inr}
 use lib.ListN.{length, replicate, length-replicate}
 use Rattle.reader.specs.declared.Reader.{Reader}
@@ -28,11 +28,11 @@ use Rattle.states.specs.States.{readerLength, readerOf, writerOf}
 use Rattle.c_reader.specs.Calls.{ddsReaderStart, ddsRead, readerLeft, rowsRead}
 use Rattle.c_reader.specs.Accepted.{ReadAccepted, ReadRepeated, repeatLeft}
 use Rattle.c_reader.proofs.Theorems.{read-returns-zero, read-accepts, read-repeats, read-repeated, read-left}
-use Rattle.trip.specs.ThroughC.{callC, Loan, LentC, numbersLent, WroteC, WasEndedC, AcceptsC, ToEndC}
+use Rattle.trip.specs.ThroughC.{callC, Loan, LentC, LentAmongC, numbersLent, WroteC, WasEndedC, AcceptsC, ToEndC}
 use Rattle.trip.specs.Stated.{Written, GivesBackC, AllClosedC, AcceptedC, ReadToEndC, ReadsOwn, AtEndAmongC, GivesBackAmongC, OutOfOrderC, RowsLeft}
 use Rattle.trip.proofs.RowBytes.{row-bytes}
 use Rattle.trip.proofs.Writing.{written-through, ended-rests, either-seen}
-use Rattle.trip.proofs.Reading.{slice, enough-lent, held-slice, starts-through, sound-fresh, refused-through, accepted-through, through-to-end, sound-to-end, sound-end}
+use Rattle.trip.proofs.Reading.{slice, enough-lent, among-lent, held-slice, starts-through, sound-fresh, refused-through, accepted-through, through-to-end, sound-to-end, sound-end}
 use Rattle.trip.proofs.Settled.{start-lent, lent-enough, same-reading}
 use Rattle.trip.proofs.Accepting.{accepts-own, reads-own, split, split-end}
 use Rattle.trip.proofs.Once.{lays-start}
@@ -100,13 +100,13 @@ module _ (size first : ℕ) (state group : List ℕ) (run : List Image) (closed 
   -- "Drives may record one Basic Group several times": handed in with any repeats of L bytes, whatever they hold, they give back the
   -- same.
   pub c-returned-among : (handed : List Image) (old answer : List ℕ) (loans : List Loan) → withoutRepeats handed ≡ run → Each (OfSize size) handed →
-      length old ≡ readerLength → length answer ≡ answerLength → LentC handed loans → GivesBackAmongC size first old answer handed loans closed
+      length old ≡ readerLength → length answer ≡ answerLength → LentAmongC handed loans → GivesBackAmongC size first old answer handed loans closed
   c-returned-among handed old answer loans same z e f l =
-      let y = returned-among size first (desk (writerOf state) group) run closed now (c-wrote .wrote) handed (numbersLent loans) same z (enough-lent l) in
+      let y = returned-among size first (desk (writerOf state) group) run closed now (c-wrote .wrote) handed (numbersLent loans) same z (among-lent l) in
       let t = y .through in
       let s = starts-through size first (y .reader) old answer (y .starts) e f in
       let h = sound-fresh size first (y .reader) (y .starts) in
-      let reads = through-to-end (t .reads) h l refl in
+      let reads = through-to-end (t .reads) h l in
       let ends = subst (λ (r : Reader). EndsWith (r .size) (r .next) (withoutRepeats handed) (t .rows) (closed .begun) (t .final)) (begun-at size first (y .reader) (y .starts) .1) (t .ends) in
       record {
         read = record {
@@ -171,14 +171,15 @@ module _ (size first : ℕ) (state answer : List ℕ) where
       let o = c-reads run loans a in
       lawful size first (o .reader) (o .starts) run (numbersLent loans) (a .rows) (o .last) b (o .reads)
 
-  -- A lawful layout is read to its end, with any repeats of L bytes in it, whatever they hold, and with any slices that are long enough.
+  -- A lawful layout is read to its end, with any repeats of L bytes in it, whatever they hold, and with any slices, those for rows long
+  -- enough where a group is no repeat.
   pub c-complete : (i : List Item) (b : List ℕ) (run : List Image) (loans : List Loan) → Lays size first i b (withoutRepeats run) → Each (OfSize size) run →
-      length state ≡ readerLength → length answer ≡ answerLength → LentC run loans → ReadToEndC size first state answer run loans
+      length state ≡ readerLength → length answer ≡ answerLength → LentAmongC run loans → ReadToEndC size first state answer run loans
   c-complete i b run loans l z e f lent =
       let s = lays-start size first i b (withoutRepeats run) l in
-      let c = complete size first (fresh size first) s i b run (numbersLent loans) l z (enough-lent lent) in
+      let c = complete size first (fresh size first) s i b run (numbersLent loans) l z (among-lent lent) in
       let o = starts-through size first (fresh size first) state answer s e f in
-      let reads = through-to-end (c .reads) (sound-fresh size first (fresh size first) s) lent refl in
+      let reads = through-to-end (c .reads) (sound-fresh size first (fresh size first) s) lent in
       record {
         starts = ap (λ (y : Left). y .refusal) o;
         rows = c .rows;
@@ -188,7 +189,7 @@ module _ (size first : ℕ) (state answer : List ℕ) where
 
   -- So a run is read to its end exactly when some list of records and separators lays out to it, its repeats taken out. (Of byte slices,
   -- as above, of "the run's group size".)
-  pub c-exactly : (run : List Image) (loans : List Loan) → Each OfBytes run → Each (OfSize size) run → length state ≡ readerLength → length answer ≡ answerLength → LentC run loans →
+  pub c-exactly : (run : List Image) (loans : List Loan) → Each OfBytes run → Each (OfSize size) run → length state ≡ readerLength → length answer ≡ answerLength → LentAmongC run loans →
       ReadToEndC size first state answer run loans ↔ ((i : List Item) × ((b : List ℕ) × Lays size first i b (withoutRepeats run)))
   c-exactly run loans b z e f l = (
     λ a. (itemsRead (withoutRepeats run) (a .rows), (begunRead (withoutRepeats run) (a .rows), c-lawful run loans b a)),

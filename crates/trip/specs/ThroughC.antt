@@ -4,6 +4,7 @@
 use Prim.Native.Nat.{ℕ, _*_, _≤_}
 use mathlib.Core.List.{List, [], _∷_, _++_}
 use mathlib.Core.Path.{_≡_}
+use mathlib.Core.Logic.{_⊎_}
 use lib.ListN.{length}
 use Rattle.group.specs.declared.Phase.{Phase}
 use Rattle.group.specs.Sizes.{informationLength}
@@ -103,6 +104,17 @@ pub data LentC : List Image → List Loan → Type 0 where
   lent-none : LentC [] []
   lent-more : {g : Image} {gs : List Image} {loan : Loan} {loans : List Loan} →
       12 * g .entries ≤ length (loan .rows) → length (loan .answer) ≡ answerLength → LentC gs loans → LentC (g ∷ gs) (loan ∷ loans)
+
+-- Loans for the reads of a run with repeats: the same, but a repeat's rows may be any.
+pub data LentBehindC : ℕ → List Image → List Loan → Type 0 where
+  behind-none : {last : ℕ} → LentBehindC last [] []
+  behind-more : {last : ℕ} {g : Image} {gs : List Image} {loan : Loan} {loans : List Loan} → (g .number ≡ last) ⊎ (12 * g .entries ≤ length (loan .rows)) →
+      length (loan .answer) ≡ answerLength → LentBehindC (g .number) gs loans → LentBehindC last (g ∷ gs) (loan ∷ loans)
+
+pub data LentAmongC : List Image → List Loan → Type 0 where
+  among-none : LentAmongC [] []
+  among-more : {g : Image} {gs : List Image} {loan : Loan} {loans : List Loan} → 12 * g .entries ≤ length (loan .rows) →
+      length (loan .answer) ≡ answerLength → LentBehindC (g .number) gs loans → LentAmongC (g ∷ gs) (loan ∷ loans)
 
 -- The numbers that stand in the row slices as they are lent.
 abbrev pub numbersLent : List Loan → List (List ℕ)
