@@ -3,10 +3,9 @@
 use Prim.Native.Nat.{ℕ, suc, _+_, _*_, _-_, _≤_}
 use native.Mathlib.Omega.{arith}
 use mathlib.Core.List.{List, [], _∷_, _++_, map}
-use mathlib.Core.Bool.{Bool, true, false, _||_}
+use mathlib.Core.Bool.{true}
 use mathlib.Core.Path.{_≡_, refl, sym, ap, _∙_}
 use mathlib.Core.Logic.{_↔_}
-use lib.Dec.{leb}
 use lib.ListN.{length, length-append}
 use borrow.Author.Tests.{le-leb}
 use Rattle.group.specs.declared.Phase.{Phase}
@@ -23,7 +22,7 @@ use Rattle.reader.specs.declared.ReaderStart.the-variants as start
 use Rattle.reader.specs.declared.ReadAnswer.the-variants as answer
 use Rattle.entry.specs.Rules.{standAt, b4Kept}
 use Rattle.reader.specs.Answer.{fresh, acceptedKept, readerStartCall, opening, closing, groupScan, readCall}
-use Rattle.reader.proofs.Accepted.{Ready, accepts}
+use Rattle.reader.proofs.Accepted.{Ready, accepts, none-accepted}
 use Rattle.layout.specs.Items.{Item, Tail, Piece, Token, Each, grouped, joined, soFar, wholeOf, SoundTail}
 use Rattle.layout.specs.Items.Each.{each-none, each-more}
 use Rattle.layout.specs.Items.Tail.{noneOpen, brokenInside, brokenOwed}
@@ -156,16 +155,12 @@ accepts-run s at e m b (run-more {plain} {ps} {pss} {g} i j f r) (lent-more {old
     let q = read-group {plain = plain} {room = length old} {ps = ps} {g = g} at (omega arith) (omega arith) (rw e f) fits b (grouped pss) w in
     accepted-on old (q .answers) (accepts-run (q .left) (q .at) (q .sizes ∙ e) (q .nexts ∙ ap suc m) (q .warns) r more (q .goes))
 
-or-true : (b : Bool) → b || true ≡ true
-or-true true = refl
-or-true false = refl
-
 pub complete-to : {size first : ℕ} {i : List Item} {b : List ℕ} {run : List Image} {lent : List (List ℕ)} (l : Lays size first i b run) → Lent run lent →
     AcceptedTo (fresh size first) run lent (tailStand (l .tail)) (tailSum (l .tail))
 complete-to {size} {first} l lent =
     let (least, most) = within 64 size 126632 (l .sized) in
     let (some, last) = within 1 first lastNumber (l .numbered) in
-    accepts-run (fresh size first) (record { least = least; most = most; some = some; began = or-true (leb 2 first); opens = o-free }) refl refl refl (l .images) lent (walk-of l)
+    accepts-run (fresh size first) (record { least = least; most = most; some = some; began = none-accepted first; opens = o-free }) refl refl refl (l .images) lent (walk-of l)
 
 -- The sum at the end is the length of what is open, and the phase is free where nothing is.
 pub tail-sum : (t : Tail) → tailSum t ≡ length (soFar t)

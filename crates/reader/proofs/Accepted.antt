@@ -1,7 +1,7 @@
 -- What the tests before a scan tell, what each way of a read answers, and what acceptance implies.
 -- Assumes nothing.
 use mathlib.Core.Path.{_≡_, refl, sym, ap, _∙_}
-use mathlib.Core.Bool.{Bool, true, false, cond, not, _&&_}
+use mathlib.Core.Bool.{Bool, true, false, cond, not, _&&_, _||_}
 use mathlib.Core.List.{List}
 use Prim.Native.Nat.{ℕ, _+_, _*_, _-_, _≤_}
 use native.Mathlib.Omega.{arith}
@@ -67,6 +67,14 @@ module _ (s : Reader) (size number n room : ℕ) where
       (and (eq-eqb number (s .next) (r .next)) (le-leb number lastNumber (r .numbered)))
       (and (le-leb 1 n (r .some)) (le-leb (informationLength + entryLength * n) (s .size) (r .fits)))
       (le-leb (3 * n) room (r .rows)))
+
+-- A state that says no group was accepted can be so at every number.
+pub none-accepted : (next : ℕ) → acceptedKept next false ≡ true
+none-accepted next = by (leb 2 next)
+  where
+    by : (b : Bool) → b || true ≡ true
+    by true = refl
+    by false = refl
 
 -- A repeat, as facts; and what would else be refused with 5, and only that, may be one.
 module _ (s : Reader) (size number : ℕ) where

@@ -3,11 +3,10 @@
 -- Assumes nothing.
 use mathlib.Core.Path.{_≡_, refl, sym, ap, _∙_, subst}
 use mathlib.Core.Logic.{_⊎_, inl, inr}
-use mathlib.Core.Bool.{Bool, true, false, _||_}
+use mathlib.Core.Bool.{true}
 use mathlib.Core.List.{List, [], _∷_}
 use Prim.Native.Nat.{ℕ, _*_, _/_, _≤_}
 use native.Mathlib.Omega.{arith}
-use lib.Dec.{leb}
 use lib.ListN.{length}
 use Rattle.numbers.proofs.InBytes.{length-in-bytes, length-numbers, numbers-put}
 use Rattle.numbers.specs.Numbers.{numberAt, numbersIn, bytesOf, inBytes}
@@ -25,7 +24,7 @@ use Rattle.reader.specs.Answer.{sound, readerStartCall, readCall, groupRows, ro
 use Rattle.reader.proofs.Sound.{sound-again}
 use Rattle.layout.specs.Layout.{Image}
 use Rattle.layout.specs.Accepting.{Accepts, ToEnd, Lent, LentBehind, LentAmong, lentTo}
-use Rattle.reader.proofs.Accepted.{begun-at, repeated, accepted as passed}
+use Rattle.reader.proofs.Accepted.{begun-at, none-accepted, repeated, accepted as passed}
 use Rattle.slices.specs.Call.{Left, left, answerLength, lengthsKept, called}
 use Rattle.states.specs.States.{readerLength, readerOf, readerNumbers}
 use Rattle.c_reader.specs.Calls.{ddsReaderStart, ddsRead}
@@ -60,17 +59,13 @@ pub starts-through : (size first : ℕ) (s : Reader) (state answer : List ℕ) �
 unfolding ddsReaderStart called
 starts-through size first s state answer e f g = rw (kept-lengths state answer f g, e, begun-at size first s e .1)
 
-or-true : (b : Bool) → b || true ≡ true
-or-true true = refl
-or-true false = refl
-
 pub sound-fresh : (size first : ℕ) (s : Reader) → readerStartCall size first ≡ start.Started s → sound s ≡ true
 sound-fresh size first s e =
     let b = begun-at size first s e in
     let l = within leastSize size standardSize (started size first (b .0) .0) in
     let n = within 1 first lastNumber (started size first (b .0) .1) in
     let run : Run size first Free 0 = record { least = l .0; most = l .1; some = n .0; number = omega arith; kept = refl } in
-    subst (λ (r : Reader). sound r ≡ true) (sym (b .1)) (and (sound-of-run size first Free 0 run) (or-true (leb 2 first)))
+    subst (λ (r : Reader). sound r ≡ true) (sym (b .1)) (and (sound-of-run size first Free 0 run) (none-accepted first))
 
 -- A read.
 read-through : (s t : Reader) (group : List ℕ) (number n : ℕ) (rows answer : List ℕ) → sound s ≡ true → length answer ≡ answerLength →
