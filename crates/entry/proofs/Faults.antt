@@ -16,7 +16,8 @@ use Rattle.group.specs.Contracts.{Meant}
 use Rattle.group.proofs.FlagLaws.{meant-or}
 use Rattle.numbers.proofs.Tests.{passed}
 use Rattle.entry.specs.declared.Cursor.{Cursor}
-use Rattle.entry.specs.Rules.{isSkip, b4Kept, followKept, countFault, roomKept, skipKept, dataFault, entryFault, orElse, sumAfter, reachedAfter}
+use Rattle.entry.specs.declared.Stand.{Stand}
+use Rattle.entry.specs.Rules.{isSkip, b4Kept, followKept, countFault, roomKept, skipKept, mayOwe, owedKept, dataFault, entryFault, orElse, sumAfter, reachedAfter}
 use Rattle.entry.specs.Scan.{after}
 use Rattle.entry.proofs.Counts.{CountKept, count-kept, no-count-fault}
 use Rattle.entry.specs.Bounds.{Bounded}
@@ -42,7 +43,7 @@ module _ (size limit : ℕ) (last : Bool) (c : Cursor) (k : Kind) (w : Bool) (co
   miscounted h i n f z = rw (h, i, ← f, ne-eqb n 0 z)
 
   pub counted : b4Kept (c .warned) w ≡ true → followKept (c .stand) k last ≡ true → countFault k (c .sum) count ≡ 0
-      → dataFault size limit (c .reached) k count ≡ entryFault size limit last c (Known k w) count
+      → dataFault size limit (c .stand) (c .reached) k count ≡ entryFault size limit last c (Known k w) count
   unfolding entryFault
   counted h i f = rw (h, i, f)
 
@@ -54,13 +55,16 @@ module _ (sum count : ℕ) where
   pub total-differs : (count ≡ sum → ⊥) → 22 ≡ countFault Total sum count
   total-differs e = rw (ne-eqb count sum e)
 
--- A skip's count, against L less the data before it.
-module _ (size limit reached : ℕ) (k : Kind) (count : ℕ) (h : roomKept k reached count limit ≡ true) (i : isSkip k ≡ true) where
-  pub skip-counted : count ≡ size - reached → 0 ≡ dataFault size limit reached k count
-  skip-counted e = rw (h, i, eq-eqb count (size - reached) e)
-
-  pub skip-differs : (count ≡ size - reached → ⊥) → 13 ≡ dataFault size limit reached k count
+-- A skip's count, against L less the data before it, and against what may owe a total.
+module _ (size limit : ℕ) (stand : Stand) (reached : ℕ) (k : Kind) (count : ℕ) (h : roomKept k reached count limit ≡ true) (i : isSkip k ≡ true) where
+  pub skip-differs : (count ≡ size - reached → ⊥) → 13 ≡ dataFault size limit stand reached k count
   skip-differs e = rw (h, i, ne-eqb count (size - reached) e)
+
+  pub skip-early : count ≡ size - reached → mayOwe stand count ≡ false → 23 ≡ dataFault size limit stand reached k count
+  skip-early e o = rw (h, i, eq-eqb count (size - reached) e, o)
+
+  pub skip-counted : count ≡ size - reached → mayOwe stand count ≡ true → 0 ≡ dataFault size limit stand reached k count
+  skip-counted e o = rw (h, i, eq-eqb count (size - reached) e, o)
 
 -- Every rule of an entry is kept.
 pub record Kept (size limit : ℕ) (last : Bool) (c : Cursor) (k : Kind) (w : Bool) (count : ℕ) : Type 0 where
@@ -69,6 +73,7 @@ pub record Kept (size limit : ℕ) (last : Bool) (c : Cursor) (k : Kind) (w : Bo
   pub counted : CountKept k (c .sum) count
   pub room : roomKept k (c .reached) count limit ≡ true
   pub skip : skipKept k (c .reached) count size ≡ true
+  pub owed : owedKept k (c .stand) count ≡ true
 
 or-none : (fault rest : ℕ) → orElse fault rest ≡ 0 → (fault ≡ 0) × (rest ≡ 0)
 or-none fault rest e = by (eqb fault 0) refl e
@@ -84,20 +89,22 @@ module _ (size limit : ℕ) (last : Bool) (c : Cursor) (k : Kind) (w : Bool) (co
   kept e =
       let a = passed (not (b4Kept (c .warned) w)) 8 e in
       let b = passed (not (followKept (c .stand) k last)) 9 (a .1) in
-      let d = or-none (countFault k (c .sum) count) (dataFault size limit (c .reached) k count) (b .1) in
+      let d = or-none (countFault k (c .sum) count) (dataFault size limit (c .stand) (c .reached) k count) (b .1) in
       let f = passed (not (roomKept k (c .reached) count limit)) 11 (d .1) in
       let g = passed (not (skipKept k (c .reached) count size)) 12 (f .1) in
+      let o = passed (not (owedKept k (c .stand) count)) 22 (g .1) in
       record {
         b4 = not-false _ (a .0);
         follow = not-false _ (b .0);
         counted = count-kept k (c .sum) count (d .0);
         room = not-false _ (f .0);
         skip = not-false _ (g .0);
+        owed = not-false _ (o .0);
       }
 
   pub no-fault : Kept size limit last c k w count → entryFault size limit last c (Known k w) count ≡ 0
   unfolding entryFault
-  no-fault h = rw (h .b4, h .follow, no-count-fault k (c .sum) count (h .counted), h .room, h .skip)
+  no-fault h = rw (h .b4, h .follow, no-count-fault k (c .sum) count (h .counted), h .room, h .skip, h .owed)
 
 -- A flag without a meaning is a fault.
 pub unknown-fault : (size limit : ℕ) (last : Bool) (c : Cursor) (count : ℕ) → entryFault size limit last c Unknown count ≡ 0 → ⊥

@@ -4,4 +4,6 @@ pub mod Faults
 pub mod Scans
 pub mod Suits
 pub mod Reasons
+pub mod EarlyAt
+pub mod Owing
 pub mod Tables

@@ -1,5 +1,5 @@
 -- Document 01, "Which entry may follow" and "Numbers the firmware sees": the rules of one entry, 8 to 10, then 19 to 22 of change
--- request 2026-02 in the place of 11, then 12 and 13.
+-- request 2026-02 in the place of 11, then 12 and 13, then 23 of change request 2026-06.
 -- Assumes nothing.
 use Prim.Native.Nat.{ℕ, _+_, _-_}
 use mathlib.Core.List.{List, [], _∷_}
@@ -11,7 +11,7 @@ use Rattle.group.specs.declared.Phase.{Phase}
 use Rattle.group.specs.declared.Phase.the-variants as phase
 use Rattle.group.specs.declared.Meaning.{Meaning}
 use Rattle.group.specs.declared.Meaning.the-variants.{Known, Unknown}
-use Rattle.group.specs.Sizes.{longestRecord}
+use Rattle.group.specs.Sizes.{longestRecord, mostOwing}
 use Rattle.group.specs.Flags.{kindNumber}
 use Rattle.entry.specs.declared.Stand.{Stand}
 use Rattle.entry.specs.declared.Stand.the-variants.{Free, AfterPart, Inside, AfterLast, Owed}
@@ -135,20 +135,38 @@ roomKept k reached count limit = leb (reachedAfter k reached count) limit
 abbrev pub skipKept : Kind → (reached count size : ℕ) → Bool
 skipKept k reached count size = cond (isSkip k) (eqb count (size - reached)) true
 
+-- "The freedom "a skip after a last" narrows to skip counts 40 to 43." A skip elsewhere owes no total. (40 is the least that 12 and 13
+-- leave a group of two entries.)
+abbrev pub mayOwe : Stand → (count : ℕ) → Bool
+mayOwe Free count = true
+mayOwe AfterPart count = true
+mayOwe Inside count = true
+mayOwe AfterLast count = leb count mostOwing
+mayOwe Owed count = true
+
+-- 23, a total owed too early: "a group of two entries, last then skip, whose skip count is 44 or more".
+abbrev pub owedKept : Kind → Stand → (count : ℕ) → Bool
+owedKept k stand count = cond (isSkip k) (mayOwe stand count) true
+
 -- A fault that is one, or else what comes after it in the order.
 abbrev pub orElse : ℕ → ℕ → ℕ
 orElse fault rest = cond (eqb fault 0) rest fault
 
--- 12, then 13.
-abbrev pub dataFault : (size limit reached : ℕ) → Kind → (count : ℕ) → ℕ
-dataFault size limit reached k count =
-    cond (not (roomKept k reached count limit)) 12 (cond (not (skipKept k reached count size)) 13 0)
+-- "23 total owed too early, at entry 2, after 13": 13, then 23.
+abbrev pub skipFault : (size : ℕ) → Stand → (reached : ℕ) → Kind → (count : ℕ) → ℕ
+skipFault size stand reached k count =
+    cond (not (skipKept k reached count size)) 13 (cond (not (owedKept k stand count)) 23 0)
 
--- "at one entry 8 to 13 in number order", where "in its place in the order come" 19 to 22 for 11: the number of the first rule that is
--- broken, 0 if none is.
+-- 12, then 13 and 23.
+abbrev pub dataFault : (size limit : ℕ) → Stand → (reached : ℕ) → Kind → (count : ℕ) → ℕ
+dataFault size limit stand reached k count =
+    cond (not (roomKept k reached count limit)) 12 (skipFault size stand reached k count)
+
+-- "at one entry 8 to 13 in number order", where "in its place in the order come" 19 to 22 for 11, and 23 "after 13": the number of the
+-- first rule that is broken, 0 if none is.
 unfoldable pub entryFault : (size limit : ℕ) (last : Bool) → Cursor → Meaning → (count : ℕ) → ℕ
 entryFault size limit last c Unknown count = 8
 entryFault size limit last c (Known k warned) count =
     cond (not (b4Kept (c .warned) warned)) 9
     (cond (not (followKept (c .stand) k last)) 10
-    (orElse (countFault k (c .sum) count) (dataFault size limit (c .reached) k count)))
+    (orElse (countFault k (c .sum) count) (dataFault size limit (c .stand) (c .reached) k count)))

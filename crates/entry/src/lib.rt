@@ -1,4 +1,4 @@
-// One entry of a group's table: document 01, "Which entry may follow" and refusals 8 to 13, with 19 to 22 in the place of 11. Its
+// One entry of a group's table: document 01, "Which entry may follow" and refusals 8 to 13, with 19 to 22 in the place of 11, and 23. Its
 // rules, what a scan carries from entry to entry, and how it ends. The leaves here have a `requires` where they add or look up; the
 // scan that calls them stands above.
 pub mod rules;

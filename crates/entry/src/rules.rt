@@ -5,7 +5,7 @@ ghost use Rattle.group.specs.Sizes.{standardSize, longestRecord};
 ghost use Rattle.group.specs.declared.Meaning.the-variants.{Known};
 ghost use Rattle.group.specs.Flags.{meaningOf};
 ghost use Rattle.group.specs.Contracts.{Meant};
-ghost use Rattle.entry.specs.Rules.{mayFollow, isSkip, holdsData, standAfter, sumAfter, reachedAfter, b4Kept, countFault, followKept, dataFault, entryFault};
+ghost use Rattle.entry.specs.Rules.{mayFollow, isSkip, holdsData, standAfter, sumAfter, reachedAfter, b4Kept, countFault, followKept, mayOwe, dataFault, entryFault};
 ghost use Rattle.entry.specs.Scan.{after, reachedBy};
 ghost use Rattle.entry.specs.Bounds.{standNumber, followTable, Bounded, partFault};
 use crate::Cursor;
@@ -164,10 +164,23 @@ fn sum_after(kind: Kind, sum: u32, count: u32) -> u32
     }
 }
 
-// 12, then 13.
-fn data_fault(size: u32, limit: u32, reached: u32, kind: Kind, count: u32) -> u32
+// Whether a skip of this count owes no total, or owes it for want of room.
+pub fn may_owe(stand: Stand, count: u32) -> bool
+    ensures { λ r. ⌜ r ≡ mayOwe stand count ⌝ }
+{
+    match stand {
+        Stand::Free => true,
+        Stand::AfterPart => true,
+        Stand::Inside => true,
+        Stand::AfterLast => count <= Group::MOST_OWING,
+        Stand::Owed => true,
+    }
+}
+
+// 12, then 13, then 23.
+fn data_fault(size: u32, limit: u32, stand: Stand, reached: u32, kind: Kind, count: u32) -> u32
     requires { ⌜ (reached ≤ limit) × ((limit ≤ size) × ((size ≤ standardSize) × (count ≤ longestRecord))) ⌝ }
-    ensures { λ r. ⌜ r ≡ dataFault size limit reached kind count ⌝ }
+    ensures { λ r. ⌜ r ≡ dataFault size limit stand reached kind count ⌝ }
 {
     if limit < reached_after(kind, reached, count) {
         return 12;
@@ -177,6 +190,9 @@ fn data_fault(size: u32, limit: u32, reached: u32, kind: Kind, count: u32) -> u3
     }
     if count != size - reached {
         return 13;
+    }
+    if !may_owe(stand, count) {
+        return 23;
     }
     0
 }
@@ -188,8 +204,8 @@ fn b4_kept(before: bool, warned: bool) -> bool
     if before { warned } else { true }
 }
 
-// 9, 10, 19 to 22, 12 and 13 of an entry whose flag has this meaning, in this order: the number of the first rule that is broken, 0
-// if none is. `limit` is L − 32 − 4n.
+// 9, 10, 19 to 22, 12, 13 and 23 of an entry whose flag has this meaning, in this order: the number of the first rule that is broken,
+// 0 if none is. `limit` is L − 32 − 4n.
 fn known_fault(
     follows: &[[bool; 8]; 5],
     size: u32,
@@ -215,7 +231,7 @@ fn known_fault(
     if fault != 0 {
         return fault;
     }
-    data_fault(size, limit, here.reached, kind, count)
+    data_fault(size, limit, stand, here.reached, kind, count)
 }
 
 // All rules of one entry: 8 where its flag has no meaning, and then those above.

@@ -29,6 +29,10 @@ longestRecord = 16777215
 abbrev pub lastNumber : ℕ
 lastNumber = 65535
 
+-- Change request 2026-06, "skip counts 40 to 43": the greatest count of a skip that owes a total. At 44 the total has room.
+abbrev pub mostOwing : ℕ
+mostOwing = 43
+
 -- "L is 64 to 126,632."
 abbrev pub sizeKept : ℕ → Bool
 sizeKept size = between leastSize size standardSize

@@ -19,6 +19,8 @@ impl Group {
     pub const LONGEST_RECORD: u32 = 16777215;
 
     pub const LAST_NUMBER: u32 = 65535;
+
+    pub const MOST_OWING: u32 = 43;
 }
 
 // The kinds of entry, in the order of their numbers.

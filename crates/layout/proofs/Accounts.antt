@@ -8,11 +8,11 @@ use mathlib.Core.Path.{_≡_, refl, sym, ap, _∙_}
 use lib.ListN.{length, take, drop, length-drop}
 use lib.Seq.{length-take-le, take-length, drop-length}
 use lib.Dec.{eqb}
-use borrow.Author.Tests.{eqb-true}
+use borrow.Author.Tests.{eqb-true, le-leb}
 use Rattle.group.specs.declared.Kind.the-variants as kind
 use Rattle.group.specs.declared.Phase.{Phase}
 use Rattle.group.specs.declared.Phase.the-variants as phase
-use Rattle.group.specs.Sizes.{leastSize, standardSize, informationLength, longestRecord, lastNumber}
+use Rattle.group.specs.Sizes.{leastSize, standardSize, informationLength, longestRecord, lastNumber, mostOwing}
 use Rattle.numbers.proofs.Tests.{within}
 use Rattle.entry.specs.declared.Stand.{Stand}
 use Rattle.entry.specs.declared.Stand.the-variants as stand
@@ -34,7 +34,7 @@ use Rattle.layout.specs.Items.Item.{recordItem}
 use Rattle.layout.specs.Layout.{Image, kindOf, countOf, dataOf}
 use Rattle.layout.specs.Reading.{itemsAfter, begunAfter}
 use Rattle.layout.specs.Writing.{Account, totalLaid, inHand, afterRecord, afterSeparator, noted, AsAsked, imageOf}
-use Rattle.layout.proofs.Grammar.{Fits}
+use Rattle.layout.proofs.Grammar.{Fits, Ends}
 use Rattle.layout.proofs.Held.{Held, held-warn, held-moved, held-entry, held-part, held-shut}
 
 -- What the account has in hand between calls, by the phase: free, no record is begun; inside, bytes of it are asked for; owed,
@@ -85,7 +85,7 @@ rest-free {a} h p s t = record { sized = refl; holds = held-as (sym (ap standAt 
 
 -- A close of a desk whose phase is already set.
 after-close : {first : ℕ} {run : List Image} {note : WriteAnswer → Account} {done : List Item} {begun : List ℕ} {at : Stand} {sum : ℕ} (taken : ℕ) (v : Desk) →
-    Held first at sum v run done begun → mayFollow at kind.Skip ≡ true → standAt (phaseAfter at) ≡ standAt (v .state .phase) → sum ≡ v .state .sum →
+    Held first at sum v run done begun → Ends (v .state .size) at (v .state .filled) → standAt (phaseAfter at) ≡ standAt (v .state .phase) → sum ≡ v .state .sum →
     v .state .next ≤ lastNumber → leastSize ≤ v .state .size → span (v .state .filled) (v .state .entries + 1) ≤ v .state .size →
     Hand (v .state .phase) (note (closed taken v .answer)) → done ≡ note (closed taken v .answer) .finished → begun ≡ note (closed taken v .answer) .begun →
     After (v .state .size) first run note (closed taken v)
@@ -100,7 +100,7 @@ module _ {first : ℕ} {v : Desk} {run : List Image} {done : List Item} (r : Rea
   -- Nothing is laid but the skip.
   close-free : {note : WriteAnswer → Account} → done ≡ note (closed 0 v .answer) .finished → [] ≡ note (closed 0 v .answer) .begun → After (v .state .size) first run note (closed 0 v)
   unfolding mayFollow
-  close-free {note} f b = after-close 0 v (r .holds) refl (sym (ap standAt (r .phase))) (sym (r .sum)) (r .low) (r .small) (r .room) (hand-free (note (closed 0 v .answer)) (r .phase) (sym b)) f b
+  close-free {note} f b = after-close 0 v (r .holds) (record { follows = refl; owes = refl }) (sym (ap standAt (r .phase))) (sym (r .sum)) (r .low) (r .small) (r .room) (hand-free (note (closed 0 v .answer)) (r .phase) (sym b)) f b
 
   record-free : {bs : List ℕ} {d : Done} → 1 ≤ length bs → length bs ≤ longestRecord → RecordedFree bs v d →
       After (v .state .size) first run (λ o. afterRecord o (record { finished = done; begun = []; asked = bs })) d
@@ -114,7 +114,7 @@ module _ {first : ℕ} {v : Desk} {run : List Image} {done : List Item} (r : Rea
       let f : Fits stand.Free 0 (Piece.aStart (take m bs)) = record { follows = refl; kept = (omega arith, omega arith); small = omega arith } in
       let k = held-moved phase.Inside m (length bs - m) (held-part (Piece.aStart (take m bs)) (r .holds) f refl (omega arith)) in
       let more : 1 ≤ length (drop m bs) = rw length-drop (omega arith) in
-      after-close m (moved phase.Inside m (length bs - m) (layPart kind.Start (take m bs) v)) k refl refl l (r .low) (r .small) (omega arith) more (append-nil done) refl
+      after-close m (moved phase.Inside m (length bs - m) (layPart kind.Start (take m bs) v)) k (record { follows = refl; owes = refl }) refl l (r .low) (r .small) (omega arith) more (append-nil done) refl
   record-free low high (nothing h) = close-free refl refl
 
 separator-free : {first : ℕ} {v : Desk} {run : List Image} {d : Done} (a : Account) → Ready first v run (a .finished) → a .begun ≡ [] → (value : ℕ) → value ≤ 1 → SeparatorLaid value v d →
@@ -161,7 +161,7 @@ module _ {first : ℕ} {v : Desk} {run : List Image} {a : Account} (r : Inner fi
       record { follows = refl; kept = (omega arith, omega arith); small = omega arith } in
       let h = held-moved phase.Inside (v .state .sum + m) (length (a .asked) - m) (held-part (Piece.aMiddle bs) (r .holds) f refl (omega arith)) in
       let more : 1 ≤ length (drop m (a .asked)) = rw length-drop (omega arith) in
-      after-close m (moved phase.Inside (v .state .sum + m) (length (a .asked) - m) (layPart kind.Middle bs v)) h refl refl (omega arith) (r .low) (r .small) (omega arith) more (append-nil (a .finished)) refl
+      after-close m (moved phase.Inside (v .state .sum + m) (length (a .asked) - m) (layPart kind.Middle bs v)) h (record { follows = refl; owes = refl }) refl (omega arith) (r .low) (r .small) (omega arith) more (append-nil (a .finished)) refl
   record-inside (total h) =
       let c = r .filled in
       let d = r .entries in
@@ -175,7 +175,8 @@ module _ {first : ℕ} {v : Desk} {run : List Image} {a : Account} (r : Inner fi
       let d = r .entries in
       let t = r .small in
       let n : ℕ = v .state .sum + length (a .asked) in
-      after-close (length (a .asked)) (moved phase.Owed n 0 (layPart kind.Last (a .asked) v)) (held-moved phase.Owed n 0 (last-part h)) refl refl refl (r .low) (r .small) (omega arith) (drop-length (a .asked)) refl (rw take-length)
+      let late = le-leb (v .state .size - (v .state .filled + length (a .asked))) mostOwing (omega arith) in
+      after-close (length (a .asked)) (moved phase.Owed n 0 (layPart kind.Last (a .asked) v)) (held-moved phase.Owed n 0 (last-part h)) (record { follows = refl; owes = late }) refl refl (r .low) (r .small) (omega arith) (drop-length (a .asked)) refl (rw take-length)
 
 -- The same desk in a phase: the calls are gone through phase by phase.
 abbrev inPhase : Phase → Desk → Desk

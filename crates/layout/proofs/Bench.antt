@@ -1,5 +1,5 @@
--- Document 01, "Marked P: proved together": the bench table's cases P1 to P12, and two on b4, as one theorem over one list,
--- by computation.
+-- Document 01, "Marked P: proved together": the bench table's cases P1 to P12, three on b4 and three on a total that is owed, as
+-- one theorem over one list, by computation.
 -- Assumes nothing.
 use mathlib.Core.Path.{_≡_, refl}
 use mathlib.Core.List.{map}

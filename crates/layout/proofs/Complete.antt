@@ -45,27 +45,27 @@ unfolding readerStartCall startRefusal
 begins-at size first h k = rw (h, k)
 
 -- A walk to the end of a group: its pieces are small, and the walk goes on behind it.
-pub record Past (to : Stand) (n : ℕ) (ps : List Piece) (rest : List Token) : Type 0 where
+pub record Past (size : ℕ) (to : Stand) (n : ℕ) (ps : List Piece) (rest : List Token) : Type 0 where
   pub small : Each SmallPiece ps
   pub stand : Stand
   pub sum : ℕ
-  pub goes : Walk to n stand sum rest
+  pub goes : Walk size to n stand sum 0 rest
 
-pub past : {to at : Stand} {n s : ℕ} (ps : List Piece) (rest : List Token) → Walk to n at s (map piece ps ++ (groupEnd ∷ rest)) → Past to n ps rest
+pub past : {size : ℕ} {to at : Stand} {n s r : ℕ} (ps : List Piece) (rest : List Token) → Walk size to n at s r (map piece ps ++ (groupEnd ∷ rest)) → Past size to n ps rest
 past [] rest (leap h w) = record { small = each-none; stand = _; sum = _; goes = w }
 past (p ∷ ps) rest (step f w) =
     let q = past ps rest w in
     record { small = each-more (f .small) (q .small); stand = q .stand; sum = q .sum; goes = q .goes }
 
 -- The walk of a lawful layout's groups.
-pub walk-of : {size first : ℕ} {i : List Item} {b : List ℕ} {run : List Image} (l : Lays size first i b run) → Walk (tailStand (l .tail)) (tailSum (l .tail)) Free 0 (grouped (l .groups))
-walk-of l = rw (l .groupsOf) at (walk-laid (l .sound) (l .soundTail))
+pub walk-of : {size first : ℕ} {i : List Item} {b : List ℕ} {run : List Image} (l : Lays size first i b run) → Walk size (tailStand (l .tail)) (tailSum (l .tail)) Free 0 0 (grouped (l .groups))
+walk-of l = rw (l .groupsOf) at (walk-laid (l .sound) (l .soundTail) 0)
 
 -- The sum is kept between groups.
-sum-kept : (f : Phase) (s : ℕ) → Open (standAt f) s → sumKept f s ≡ true
+sum-kept : {size r : ℕ} (f : Phase) (s : ℕ) → Open size (standAt f) s r → sumKept f s ≡ true
 sum-kept phase.Free s o-free = refl
-sum-kept phase.Inside s (o-inside p ps a b h e) = is-within {low = 1} {n = s} {high = longestRecord - 1} (omega arith) h
-sum-kept phase.Owed s (o-owed p ps q a b c h e) = is-within {low = 2} {n = s} {high = longestRecord} (omega arith) h
+sum-kept phase.Inside s (o-inside p ps a b h e z) = is-within {low = 1} {n = s} {high = longestRecord - 1} (omega arith) h
+sum-kept phase.Owed s (o-owed p ps q a b c h e m) = is-within {low = 2} {n = s} {high = longestRecord} (omega arith) h
 
 -- A reader between groups, its numbers in range.
 pub record At (s : Reader) : Type 0 where
@@ -73,13 +73,13 @@ pub record At (s : Reader) : Type 0 where
   pub most : s .size ≤ 126632
   pub some : 1 ≤ s .next
   pub began : acceptedKept (s .next) (s .accepted) ≡ true
-  pub opens : Open (standAt (s .phase)) (s .sum)
+  pub opens : Open (s .size) (standAt (s .phase)) (s .sum) 0
 
 -- One group that is read: the state that it leaves, and where the tokens behind it lead to.
 pub record Read (s : Reader) (g : Image) (room plain : ℕ) (to : Stand) (n : ℕ) (rest : List Token) : Type 0 where
   pub left : Reader
   pub answers : readCall s (g .bytes) (g .number) (g .entries) room ≡ answer.Accepted left
-  pub goes : Walk to n (standAt (left .phase)) (left .sum) rest
+  pub goes : Walk (left .size) to n (standAt (left .phase)) (left .sum) 0 rest
   pub at : At left
   pub sizes : left .size ≡ s .size
   pub nexts : left .next ≡ suc (s .next)
@@ -115,7 +115,7 @@ module _ {s : Reader} {plain room : ℕ} {ps : List Piece} {g : Image} (at : At 
         warns = r .warns;
       }
 
-  read-group : {to : Stand} {n : ℕ} (rest : List Token) → Walk to n (standAt (s .phase)) (s .sum) (map piece ps ++ (groupEnd ∷ rest)) → Read s g room (plain - g .entries) to n rest
+  read-group : {to : Stand} {n : ℕ} (rest : List Token) → Walk (s .size) to n (standAt (s .phase)) (s .sum) 0 (map piece ps ++ (groupEnd ∷ rest)) → Read s g room (plain - g .entries) to n rest
   read-group rest w =
       read-from (entriesOf plain (s .size - length (userData ps)) ps) (entries-back f (omega (arith, at .most)) ((past ps rest w) .small))
       (scan-pieces (s .size) (entryOffset (s .size) (g .entries)) ps plain (plain - g .entries) (s .size - length (userData ps)) 1 (opening s) rest warned (ap (λ (n : ℕ). plain - n) (f .counted)) (omega (arith, adds-up f, f .counted)) (omega arith) (at .opens) w)
@@ -142,11 +142,11 @@ accepted-on old e a =
       sum = a .sum;
     }
 
-ends : {to at : Stand} {n s : ℕ} → Walk to n at s [] → (at ≡ to) × (s ≡ n)
+ends : {size : ℕ} {to at : Stand} {n s r : ℕ} → Walk size to n at s r [] → (at ≡ to) × (s ≡ n)
 ends stop = (refl, refl)
 
 pub accepts-run : {to : Stand} {n size plain number : ℕ} {groups : List (List Piece)} {run : List Image} {lent : List (List ℕ)} (s : Reader) → At s → s .size ≡ size → s .next ≡ number →
-    b4Kept (s .warned) (b4After plain) ≡ true → Run size plain number groups run → Lent run lent → Walk to n (standAt (s .phase)) (s .sum) (grouped groups) → AcceptedTo s run lent to n
+    b4Kept (s .warned) (b4After plain) ≡ true → Run size plain number groups run → Lent run lent → Walk (s .size) to n (standAt (s .phase)) (s .sum) 0 (grouped groups) → AcceptedTo s run lent to n
 unfolding grouped lentTo
 accepts-run s at e m b run-none lent-none w =
     let (p, q) = ends w in

@@ -4,43 +4,66 @@ use Prim.Native.Nat.{ℕ, suc, _+_, _-_, _≤_}
 use native.Mathlib.Omega.{arith}
 use mathlib.Core.List.{List, [], _∷_, _++_, map, append-assoc, append-nil, map-append}
 use mathlib.Core.Bool.{Bool, true, false, false≢true, _||_}
-use mathlib.Core.Path.{_≡_, refl, ap, subst}
-use lib.ListN.{length}
-use Rattle.group.specs.declared.Kind.the-variants.{Skip}
+use mathlib.Core.Path.{_≡_, refl, ap, _∙_, subst}
+use lib.ListN.{length, length-append}
 use Rattle.group.specs.declared.Phase.{Phase}
 use Rattle.group.specs.Sizes.{informationLength, lastNumber}
 use Rattle.entry.specs.declared.Stand.{Stand}
 use Rattle.entry.specs.declared.Stand.the-variants.{Free}
-use Rattle.entry.specs.Rules.{mayFollow, standAfter, sumAfter, standAt, phaseAfter}
+use Rattle.entry.specs.Rules.{standAfter, sumAfter, reachedAfter, standAt, phaseAfter}
 use Rattle.laying.specs.Laying.{Desk, desk, layEntry, layData, layPart, moved, laySkip, zeroGap, shut, warnState}
 use Rattle.laying.specs.Bounds.{span}
 use Rattle.layout.specs.Items.{Item, Piece, Token, grouped}
 use Rattle.layout.specs.Items.Token.{piece, groupEnd}
 use Rattle.layout.specs.Items.Item.{recordItem, separatorItem}
 use Rattle.layout.specs.Items.Piece.{aTotal, aSeparator, aMiddle, aStart, aLast, anEntire}
-use Rattle.layout.specs.Layout.{Image, Pictures, Run, kindOf, countOf, dataOf}
+use Rattle.layout.specs.Layout.{Image, Pictures, Run, kindOf, countOf, dataOf, userData}
 use Rattle.layout.specs.Layout.Run.{run-none, run-more}
 use Rattle.layout.specs.Reading.{itemsAfter, begunAfter}
 use Rattle.layout.specs.Writing.{imageOf}
 use Rattle.layout.proofs.Assembled.{flat}
-use Rattle.layout.proofs.Grammar.{Fits, Walk}
+use Rattle.layout.proofs.Grammar.{Fits, Ends, Walk}
 use Rattle.layout.proofs.Grammar.Walk.{stop, step, leap}
+use Rattle.layout.proofs.Decode.{data-after}
 use Rattle.layout.proofs.Buffer.{Flagged, Through, Buffered, buffered-entry, buffered-part, buffered-shut, buffered-fresh, length-snoc}
 use Rattle.layout.proofs.Buffer.Flagged.{clear, set}
 use Rattle.layout.proofs.Buffer.Through.{all-clear, no-more}
 
 -- At the end of a list: a walk, the tokens, the pieces, the run.
 
-walk-piece : {to at : Stand} {n s : ℕ} {ts : List Token} (p : Piece) → Walk to n at s ts → Fits to n p →
-    Walk (standAfter to (kindOf p)) (sumAfter (kindOf p) n (countOf p)) at s (ts ++ (piece p ∷ []))
+walk-piece : {size : ℕ} {to at : Stand} {n s r : ℕ} {ts : List Token} (p : Piece) → Walk size to n at s r ts → Fits to n p →
+    Walk size (standAfter to (kindOf p)) (sumAfter (kindOf p) n (countOf p)) at s r (ts ++ (piece p ∷ []))
 walk-piece p stop f = step f stop
 walk-piece p (step g w) f = step g (walk-piece p w f)
 walk-piece p (leap h w) f = leap h (walk-piece p w f)
 
-walk-end : {to at : Stand} {n s : ℕ} {ts : List Token} → Walk to n at s ts → mayFollow to Skip ≡ true → Walk (standAt (phaseAfter to)) n at s (ts ++ (groupEnd ∷ []))
+-- The data of the group that tokens leave open, where so much of it was reached before them.
+unfoldable reachedIn : ℕ → List Token → ℕ
+reachedIn reached [] = reached
+reachedIn reached (piece p ∷ ts) = reachedIn (reachedAfter (kindOf p) reached (countOf p)) ts
+reachedIn reached (groupEnd ∷ ts) = reachedIn 0 ts
+
+walk-end : {size : ℕ} {to at : Stand} {n s r : ℕ} {ts : List Token} → Walk size to n at s r ts → Ends size to (reachedIn r ts) → Walk size (standAt (phaseAfter to)) n at s r (ts ++ (groupEnd ∷ []))
+unfolding reachedIn
 walk-end stop f = leap f stop
 walk-end (step g w) f = step g (walk-end w f)
 walk-end (leap h w) f = leap h (walk-end w f)
+
+reached-pieces : (reached : ℕ) (ps : List Piece) → reachedIn reached (map piece ps) ≡ reached + length (userData ps)
+unfolding reachedIn userData
+reached-pieces reached [] = omega arith
+reached-pieces reached (p ∷ ps) =
+    reached-pieces (reachedAfter (kindOf p) reached (countOf p)) ps ∙ omega (arith, data-after p reached, length-append (dataOf p) (userData ps))
+
+reached-end : (reached : ℕ) (ps : List Piece) (ts : List Token) → reachedIn reached (map piece ps ++ (groupEnd ∷ ts)) ≡ reachedIn 0 ts
+unfolding reachedIn
+reached-end reached [] ts = refl
+reached-end reached (p ∷ ps) ts = reached-end (reachedAfter (kindOf p) reached (countOf p)) ps ts
+
+reached-groups : (gs : List (List Piece)) (ts : List Token) → reachedIn 0 (grouped gs ++ ts) ≡ reachedIn 0 ts
+unfolding grouped
+reached-groups [] ts = refl
+reached-groups (ps ∷ gs) ts = rw (append-assoc (map piece ps) (groupEnd ∷ grouped gs) ts) (reached-end 0 ps (grouped gs ++ ts) ∙ reached-groups gs ts)
 
 pub grouped-append : (gs hs : List (List Piece)) → grouped (gs ++ hs) ≡ grouped gs ++ grouped hs
 unfolding grouped
@@ -132,7 +155,7 @@ pub record Held (first : ℕ) (at : Stand) (sum : ℕ) (w : Desk) (run : List Im
   pub groups : List (List Piece)
   pub pieces : List Piece
   pub numbered : w .state .next ≡ first + length groups
-  pub walks : Walk at sum Free 0 (grouped groups ++ map piece pieces)
+  pub walks : Walk (w .state .size) at sum Free 0 0 (grouped groups ++ map piece pieces)
   pub finishes : itemsAfter [] (flat groups ++ pieces) ≡ finished
   pub breaks : begunAfter [] (flat groups ++ pieces) ≡ begun
   pub before : Bool
@@ -172,7 +195,7 @@ module _ {first sum : ℕ} {at : Stand} {w : Desk} {run : List Image} {finished 
 
   -- One piece more of the open group.
   module _ (p : Piece) (h : Held first at sum w run finished begun) (f : Fits at sum p) where
-    walks-on : Walk (standAfter at (kindOf p)) (sumAfter (kindOf p) sum (countOf p)) Free 0 (grouped (h .groups) ++ map piece (h .pieces ++ (p ∷ [])))
+    walks-on : Walk (w .state .size) (standAfter at (kindOf p)) (sumAfter (kindOf p) sum (countOf p)) Free 0 0 (grouped (h .groups) ++ map piece (h .pieces ++ (p ∷ [])))
     walks-on = rw (map-append piece (h .pieces) (p ∷ []), ← append-assoc (grouped (h .groups)) (map piece (h .pieces)) (piece p ∷ [])) (walk-piece p (h .walks) f)
 
     items-on : itemsAfter [] (flat (h .groups) ++ (h .pieces ++ (p ∷ []))) ≡ finished ++ itemsAfter begun (p ∷ [])
@@ -192,7 +215,7 @@ module _ {first sum : ℕ} {at : Stand} {w : Desk} {run : List Image} {finished 
     held-part e room = record { groups = h .groups; pieces = h .pieces ++ (p ∷ []); numbered = h .numbered; walks = walks-on; finishes = items-on; breaks = begun-on; before = h .before; begins = h .begins; stands = rw e at (buffered-part p room (h .stands)) }
 
   -- The group is shut, and the next call comes with another buffer.
-  pub held-shut : (information g : List ℕ) → Held first at sum w run finished begun → mayFollow at Skip ≡ true → w .state .next ≤ lastNumber → informationLength ≤ w .state .size →
+  pub held-shut : (information g : List ℕ) → Held first at sum w run finished begun → Ends (w .state .size) at (w .state .filled) → w .state .next ≤ lastNumber → informationLength ≤ w .state .size →
       span (w .state .filled) (w .state .entries + 1) ≤ w .state .size → length information ≡ informationLength → length g ≡ w .state .size →
       Held first (standAt (phaseAfter at)) sum (desk (shut w .state) g)
       (run ++ (imageOf (w .state .next) (w .state .entries + 1) (shut w .group) information ∷ [])) finished begun
@@ -200,11 +223,13 @@ module _ {first sum : ℕ} {at : Stand} {w : Desk} {run : List Image} {finished 
   held-shut information g h may low big room l m =
       let more = length-snoc (h .groups) (h .pieces) in
       let n = h .numbered in
+      let filled : reachedIn 0 (grouped (h .groups) ++ map piece (h .pieces)) ≡ w .state .filled =
+      reached-groups (h .groups) (map piece (h .pieces)) ∙ reached-pieces 0 (h .pieces) ∙ omega (arith, h .stands .reached) in
       record {
         groups = h .groups ++ (h .pieces ∷ []);
         pieces = [];
         numbered = rw more (omega arith);
-        walks = rw (append-nil (grouped (h .groups ++ (h .pieces ∷ []))), grouped-snoc (h .groups) (h .pieces)) (walk-end (h .walks) may);
+        walks = rw (append-nil (grouped (h .groups ++ (h .pieces ∷ []))), grouped-snoc (h .groups) (h .pieces)) (walk-end (h .walks) (rw filled may));
         finishes = rw (append-nil (flat (h .groups ++ (h .pieces ∷ []))), flat-snoc (h .groups) (h .pieces)) (h .finishes);
         breaks = rw (append-nil (flat (h .groups ++ (h .pieces ∷ []))), flat-snoc (h .groups) (h .pieces)) (h .breaks);
         before = w .state .warned;

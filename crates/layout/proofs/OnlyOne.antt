@@ -50,8 +50,8 @@ pub next-raised : (s t : Reader) (g : List ℕ) (number n room : ℕ) → readCa
 next-raised s t g number n room e = ap (λ (r : Reader). r .next) ((accepted s t g number n room e) .left)
 
 -- The pieces that the rows give are those of the groups.
-pub pieces-read : {size plain number n sum : ℕ} {to at : Stand} {s u : Reader} {groups : List (List Piece)} {run : List Image} {rows : List (List ℕ)} → size ≤ longestRecord → s .size ≡ size →
-    Run size plain number groups run → Walk to n at sum (grouped groups) → Accepts s run rows u → piecesOf run rows ≡ flat groups
+pub pieces-read : {size plain number n sum reached : ℕ} {to at : Stand} {s u : Reader} {groups : List (List Piece)} {run : List Image} {rows : List (List ℕ)} → size ≤ longestRecord → s .size ≡ size →
+    Run size plain number groups run → Walk size to n at sum reached (grouped groups) → Accepts s run rows u → piecesOf run rows ≡ flat groups
 unfolding piecesOf flat grouped groupRows
 pieces-read h e run-none w accepts-none = refl
 pieces-read {size} h e (run-more {ps} {pss} {g} a b f r) w (accepts-more {s} {t} {rows} old x more) =

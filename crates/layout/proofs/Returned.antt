@@ -125,7 +125,7 @@ pub record AtClose (size first : ℕ) (run : List Image) (a : Account) : Type 0 
   pub images : Run size plain first groups run
   pub phase : Phase
   pub sum : ℕ
-  pub walks : Walk (standAt phase) sum stand.Free 0 (grouped groups)
+  pub walks : Walk size (standAt phase) sum stand.Free 0 0 (grouped groups)
   pub finishes : itemsAfter [] (flat groups) ≡ a .finished
   pub breaks : begunAfter [] (flat groups) ≡ a .begun
   pub hand : Hand phase a
@@ -148,7 +148,7 @@ whole {size} {first} {w} {run} {a} k e =
       images = subst (λ (s : ℕ). Run s (c .plain) first (h .groups) run) (k .sized) (c .images);
       phase = w .state .phase;
       sum = w .state .sum;
-      walks = rw j at (h .walks);
+      walks = subst (λ (s : ℕ). Walk s (standAt (w .state .phase)) (w .state .sum) stand.Free 0 0 (grouped (h .groups))) (k .sized) (rw j at (h .walks));
       finishes = rw f at (h .finishes);
       breaks = rw f at (h .breaks);
       hand = k .hand;

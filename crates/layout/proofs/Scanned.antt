@@ -18,14 +18,14 @@ use Rattle.group.proofs.FlagLaws.{meaning-of-flag}
 use Rattle.entry.specs.declared.Stand.{Stand}
 use Rattle.entry.specs.declared.Cursor.{Cursor}
 use Rattle.entry.specs.declared.ScanEnd.the-variants.{Reached}
-use Rattle.entry.specs.Rules.{mayFollow, isSkip, standAt, phaseAfter, advance, b4Kept, reachedAfter}
+use Rattle.entry.specs.Rules.{mayFollow, isSkip, mayOwe, standAt, phaseAfter, advance, b4Kept, reachedAfter}
 use Rattle.entry.specs.Scan.{isLast, scan}
 use Rattle.entry.proofs.Faults.{Kept, no-fault}
 use Rattle.layout.specs.Items.{Piece, Token}
 use Rattle.layout.specs.Items.Piece.{aTotal, aSeparator, aMiddle, aStart, aLast, anEntire}
 use Rattle.layout.specs.Items.Token.{piece, groupEnd}
 use Rattle.layout.specs.Layout.{kindOf, countOf, dataOf, userData, b4After, plainLeft, entriesOf}
-use Rattle.layout.proofs.Grammar.{Fits, Walk, Open, take-piece, take-end}
+use Rattle.layout.proofs.Grammar.{Fits, Ends, Walk, Open, take-piece, take-end}
 use Rattle.layout.proofs.Grammar.Walk.{step, leap}
 use Rattle.layout.proofs.Decode.{plain-past, data-after}
 
@@ -54,15 +54,16 @@ warns-on (suc plain) left e =
     rw f (still (suc plain))
 
 -- The rules of a skip and of a piece, kept.
-skip-kept : (size limit : ℕ) (c : Cursor) (warned : Bool) (over : ℕ) → b4Kept (c .warned) warned ≡ true → mayFollow (c .stand) Skip ≡ true → c .reached ≤ limit → over ≡ size - c .reached →
+skip-kept : (size limit : ℕ) (c : Cursor) (warned : Bool) (over : ℕ) → b4Kept (c .warned) warned ≡ true → Ends size (c .stand) (c .reached) → c .reached ≤ limit → over ≡ size - c .reached →
     Kept size limit true c Skip warned over
 skip-kept size limit c warned over w h l e =
     record {
       b4 = w;
-      follow = and {a = mayFollow (c .stand) Skip} {b = isSkip Skip} h refl;
+      follow = and {a = mayFollow (c .stand) Skip} {b = isSkip Skip} (h .follows) refl;
       counted = tt;
       room = le-leb (c .reached) limit l;
       skip = eq-eqb over (size - c .reached) e;
+      owed = rw e (h .owes);
     }
 
 piece-kept : (size limit : ℕ) (c : Cursor) (warned : Bool) (p : Piece) → b4Kept (c .warned) warned ≡ true → Fits (c .stand) (c .sum) p → c .reached + length (dataOf p) ≤ limit →
@@ -74,6 +75,7 @@ piece-kept size limit c warned p w f h =
       counted = f .kept;
       room = le-leb (reachedAfter (kindOf p) (c .reached) (countOf p)) limit (omega (arith, data-after p (c .reached)));
       skip = ap (λ (b : Bool). cond b (eqb (countOf p) (size - c .reached)) true) (no-skip p);
+      owed = ap (λ (b : Bool). cond b (mayOwe (c .stand) (countOf p)) true) (no-skip p);
     }
 
 -- An entry whose rules are kept is passed, and the scan goes on behind it.
@@ -86,8 +88,8 @@ scan-on size limit es place c k warned count h = rw (meaning-of-flag k warned, n
 pub record Reaches (size limit : ℕ) (es : List Entry) (place : ℕ) (c : Cursor) (left : ℕ) (to : Stand) (n : ℕ) (rest : List Token) : Type 0 where
   pub end : Cursor
   pub scans : scan size limit es place c ≡ Reached end
-  pub goes : Walk to n (standAt (phaseAfter (end .stand))) (end .sum) rest
-  pub opens : Open (standAt (phaseAfter (end .stand))) (end .sum)
+  pub goes : Walk size to n (standAt (phaseAfter (end .stand))) (end .sum) 0 rest
+  pub opens : Open size (standAt (phaseAfter (end .stand))) (end .sum) 0
   pub warns : b4Kept (end .warned) (b4After left) ≡ true
 
 is-last : (plain over : ℕ) (ps : List Piece) → isLast (entriesOf plain over ps) ≡ false
@@ -102,7 +104,7 @@ reach-on {size} {limit} {place} {es} {c} k warned count h r =
 
 pub scan-pieces : {to : Stand} {n : ℕ} (size limit : ℕ) (ps : List Piece) (plain left over place : ℕ) (c : Cursor) (rest : List Token) →
     b4Kept (c .warned) (b4After plain) ≡ true → left ≡ plain - suc (length ps) → c .reached + length (userData ps) ≤ limit → over ≡ size - (c .reached + length (userData ps)) →
-    Open (c .stand) (c .sum) → Walk to n (c .stand) (c .sum) (map piece ps ++ (groupEnd ∷ rest)) → Reaches size limit (entriesOf plain over ps) place c left to n rest
+    Open size (c .stand) (c .sum) (c .reached) → Walk size to n (c .stand) (c .sum) (c .reached) (map piece ps ++ (groupEnd ∷ rest)) → Reaches size limit (entriesOf plain over ps) place c left to n rest
 unfolding scan entriesOf userData
 scan-pieces size limit [] plain left over place c rest w z l o open′ (leap h g) =
     reach-on Skip (b4After plain) over (skip-kept size limit c (b4After plain) over w h (omega arith) (omega (arith, o)))

@@ -210,16 +210,16 @@ spanned-shown =
     (accepts-more {t = at 2 phase.Inside 2} old refl (accepts-more {t = atWarned true 3 phase.Inside 3} old refl (accepts-more {t = atWarned true 4 phase.Free 0} old refl accepts-none)))
     refl refl
 
--- A late total: a skip after the last part, and the total in the next group.
+-- A late total: a skip of 43 after the last part, and the total in the next group.
 abbrev late : List (List Piece)
-late = (aStart (1 ∷ []) ∷ []) ∷ (aLast (2 ∷ []) ∷ []) ∷ (aTotal 2 ∷ []) ∷ []
+late = (aStart (1 ∷ []) ∷ []) ∷ (aLast (replicate 21 2) ∷ []) ∷ (aTotal 22 ∷ []) ∷ []
 
-pub late-shown : Shown (laidSpanned (1 ∷ []) [] (2 ∷ []) true ∷ endedEarly ∷ []) noneOpen (runOf 1 99 late) (at 4 phase.Free 0)
+pub late-shown : Shown (laidSpanned (1 ∷ []) [] (replicate 21 2) true ∷ endedEarly ∷ []) noneOpen (runOf 1 99 late) (at 4 phase.Free 0)
 unfolding opens groupOf runOf fitting
 late-shown =
-    made 99 late (each-more (sound-spanned (lit≤ tt) each-none (lit≤ tt) (lit≤ tt) tt) (each-more sound-early each-none)) sound-none
+    made 99 late (each-more (sound-spanned (lit≤ tt) each-none (lit≤ tt) (lit≤ tt) (lit≤ tt)) (each-more sound-early each-none)) sound-none
     refl refl
-    (accepts-more {t = at 2 phase.Inside 1} old refl (accepts-more {t = at 3 phase.Owed 2} old refl (accepts-more {t = at 4 phase.Free 0} old refl accepts-none)))
+    (accepts-more {t = at 2 phase.Inside 1} old refl (accepts-more {t = at 3 phase.Owed 22} old refl (accepts-more {t = at 4 phase.Free 0} old refl accepts-none)))
     refl refl
 
 -- Early ends: empty groups, first and last, and one between.
@@ -248,16 +248,16 @@ inside-shown =
     (accepts-more {t = at 2 phase.Inside 1} old refl (accepts-more {t = at 3 phase.Inside 3} old refl accepts-none))
     refl refl
 
--- A total owed at the end.
+-- A total owed at the end, beside a skip of 40.
 abbrev owed : List (List Piece)
-owed = (aStart (1 ∷ []) ∷ []) ∷ (aLast (2 ∷ []) ∷ []) ∷ []
+owed = (aStart (1 ∷ []) ∷ []) ∷ (aLast (replicate 24 2) ∷ []) ∷ []
 
-pub owed-shown : Shown [] (brokenOwed (1 ∷ []) [] (2 ∷ [])) (runOf 1 99 owed) (at 3 phase.Owed 2)
+pub owed-shown : Shown [] (brokenOwed (1 ∷ []) [] (replicate 24 2)) (runOf 1 99 owed) (at 3 phase.Owed 25)
 unfolding opens groupOf runOf fitting
 owed-shown =
-    made 99 owed each-none (sound-owed (lit≤ tt) each-none (lit≤ tt) (lit≤ tt) tt)
+    made 99 owed each-none (sound-owed (lit≤ tt) each-none (lit≤ tt) (lit≤ tt) (lit≤ tt))
     refl refl
-    (accepts-more {t = at 2 phase.Inside 1} old refl (accepts-more {t = at 3 phase.Owed 2} old refl accepts-none))
+    (accepts-more {t = at 2 phase.Inside 1} old refl (accepts-more {t = at 3 phase.Owed 25} old refl accepts-none))
     refl refl
 
 -- "only the number tells equal middles apart": a record with two middles of one length, whatever their bytes. So where x y and

@@ -75,7 +75,7 @@ record GroupRead (s : Reader) (g : Image) (t : Reader) (left : ℕ) : Type 0 whe
   pub bounded : s .next ≤ lastNumber
   pub sizes : s .size ≡ t .size
   pub nexts : suc (s .next) ≡ t .next
-  pub walks : (to : Stand) (n : ℕ) (rest : List Token) → Walk to n (standAt (t .phase)) (t .sum) rest → Walk to n (standAt (s .phase)) (s .sum) (map piece pieces ++ (groupEnd ∷ rest))
+  pub walks : (to : Stand) (n : ℕ) (rest : List Token) → Walk (s .size) to n (standAt (t .phase)) (t .sum) 0 rest → Walk (s .size) to n (standAt (s .phase)) (s .sum) 0 (map piece pieces ++ (groupEnd ∷ rest))
 
 module _ (s : Reader) (g : Image) (t : Reader) (left m room : ℕ) (w : b4Kept (t .warned) (b4After left) ≡ true) (e : g .entries ≡ suc m) (b : Bytes (g .bytes)) (r : Ready s (length (g .bytes)) (g .number) (g .entries) room) where
   group-of : (c : Cursor) → t ≡ closing s c → Pictured (s .size) (entryOffset (s .size) (suc m)) left (g .bytes) (entriesBelow (g .bytes) (s .size - informationLength) (suc m)) (opening s) c → GroupRead s g t left
@@ -91,7 +91,7 @@ module _ (s : Reader) (g : Image) (t : Reader) (left m room : ℕ) (w : b4Kept (
         bounded = omega (arith, r .next, r .numbered);
         sizes = ap (λ (x : Reader). x .size) (sym k);
         nexts = omega (arith, ap (λ (x : Reader). x .next) k);
-        walks = λ to n rest w. q .walks to n rest (subst (λ (x : Reader). Walk to n (standAt (x .phase)) (x .sum) rest) k w);
+        walks = λ to n rest w. q .walks to n rest (subst (λ (x : Reader). Walk (s .size) to n (standAt (x .phase)) (x .sum) 0 rest) k w);
       }
 
   group-from : Passed s t (g .bytes) (g .number) (g .entries) room → GroupRead s g t left
@@ -114,7 +114,7 @@ pub record RunRead (s : Reader) (run : List Image) (t : Reader) : Type 0 where
   pub plain : ℕ
   pub warns : b4Kept (s .warned) (b4After plain) ≡ true
   pub images : Run (s .size) plain (s .next) groups run
-  pub walks : Walk (standAt (t .phase)) (t .sum) (standAt (s .phase)) (s .sum) (grouped groups)
+  pub walks : Walk (s .size) (standAt (t .phase)) (t .sum) (standAt (s .phase)) (s .sum) 0 (grouped groups)
 
 pub run-read : {s t : Reader} {run : List Image} {rows : List (List ℕ)} → Each OfBytes run → Accepts s run rows t → RunRead s run t
 unfolding grouped
@@ -128,7 +128,7 @@ run-read (each-more b bs) (accepts-more {s} {t} {u} {g} {gs} old h a) =
       plain = r .plain;
       warns = r .warns;
       images = run-more (r .bounded) (r .numbered) (r .pictured) later;
-      walks = r .walks (standAt (u .phase)) (u .sum) (grouped (rest .groups)) (rest .walks);
+      walks = r .walks (standAt (u .phase)) (u .sum) (grouped (rest .groups)) (rw (r .sizes) (rest .walks));
     }
 
 between-groups : (f : Phase) → Between (standAt f)
@@ -138,7 +138,7 @@ between-groups phase.Owed = b-owed
 
 -- A run of groups whose pieces walk lays out what its pieces finish and leave open.
 pub lays-run : {size plain first n : ℕ} {groups : List (List Piece)} {run : List Image} → sizeKept size ≡ true → numberKept first ≡ true → (f : Phase) → Run size plain first groups run →
-    Walk (standAt f) n Free 0 (grouped groups) → Lays size first (itemsAfter [] (flat groups)) (begunAfter [] (flat groups)) run
+    Walk size (standAt f) n Free 0 0 (grouped groups) → Lays size first (itemsAfter [] (flat groups)) (begunAfter [] (flat groups)) run
 lays-run {size} {plain} {groups} h k f r w =
     let found : Found size (grouped groups) = walk-found size (between-groups f) w in
     let e : flat groups ≡ piecesIn (tokens (found .laid) (found .tail)) = sym (in-grouped groups) ∙ ap piecesIn (sym (found .shows)) in

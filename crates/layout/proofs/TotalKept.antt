@@ -32,19 +32,20 @@ use Rattle.layout.proofs.Accounts.{Hand}
 use Rattle.layout.proofs.Returned.{at-close}
 
 -- A walk cut in two.
-record Cut (to : Stand) (n : ℕ) (at : Stand) (s : ℕ) (ts us : List Token) : Type 0 where
+record Cut (size : ℕ) (to : Stand) (n : ℕ) (at : Stand) (s r : ℕ) (ts us : List Token) : Type 0 where
   mid : Stand
   sum : ℕ
-  front : Walk mid sum at s ts
-  back : Walk to n mid sum us
+  reached : ℕ
+  front : Walk size mid sum at s r ts
+  back : Walk size to n mid sum reached us
 
-cut : {to at : Stand} {n s : ℕ} (ts us : List Token) → Walk to n at s (ts ++ us) → Cut to n at s ts us
-cut [] us w = record { mid = _; sum = _; front = stop; back = w }
-cut (piece p ∷ ts) us (step f w) = let c = cut ts us w in record { mid = c .mid; sum = c .sum; front = step f (c .front); back = c .back }
-cut (groupEnd ∷ ts) us (leap h w) = let c = cut ts us w in record { mid = c .mid; sum = c .sum; front = leap h (c .front); back = c .back }
+cut : {size : ℕ} {to at : Stand} {n s r : ℕ} (ts us : List Token) → Walk size to n at s r (ts ++ us) → Cut size to n at s r ts us
+cut [] us w = record { mid = _; sum = _; reached = _; front = stop; back = w }
+cut (piece p ∷ ts) us (step f w) = let c = cut ts us w in record { mid = c .mid; sum = c .sum; reached = c .reached; front = step f (c .front); back = c .back }
+cut (groupEnd ∷ ts) us (leap h w) = let c = cut ts us w in record { mid = c .mid; sum = c .sum; reached = c .reached; front = leap h (c .front); back = c .back }
 
 -- The sum is the length of the bytes so far, wherever a walk stands.
-sum-is : {to at : Stand} {n s : ℕ} {ts : List Token} (b : List ℕ) → Walk to n at s ts → s ≡ length b → n ≡ length (begunAfter b (piecesIn ts))
+sum-is : {size : ℕ} {to at : Stand} {n s r : ℕ} {ts : List Token} (b : List ℕ) → Walk size to n at s r ts → s ≡ length b → n ≡ length (begunAfter b (piecesIn ts))
 unfolding begunAfter piecesIn kindOf countOf
 sum-is b stop e = e
 sum-is b (step {p = aTotal m} f w) e = sum-is [] w refl
@@ -56,15 +57,15 @@ sum-is b (step {p = anEntire bs} f w) e = sum-is [] w refl
 sum-is b (leap h w) e = sum-is b w e
 
 -- Where a walk of nothing ends.
-nowhere : {to at : Stand} {n s : ℕ} → Walk to n at s [] → at ≡ to
+nowhere : {size : ℕ} {to at : Stand} {n s r : ℕ} → Walk size to n at s r [] → at ≡ to
 nowhere stop = refl
 
 -- What stands first in a walk, and what is behind an end.
-fits-first : {to mid : Stand} {n m : ℕ} {p : Piece} {ts : List Token} → Walk to n mid m (piece p ∷ ts) → Fits mid m p
+fits-first : {size : ℕ} {to mid : Stand} {n m r : ℕ} {p : Piece} {ts : List Token} → Walk size to n mid m r (piece p ∷ ts) → Fits mid m p
 fits-first (step f w) = f
 
-behind-end : {to mid : Stand} {n m : ℕ} {ts : List Token} → Walk to n mid m (groupEnd ∷ ts) → (mayFollow mid Skip ≡ true) × Walk to n (standAt (phaseAfter mid)) m ts
-behind-end (leap h w) = (h, w)
+behind-end : {size : ℕ} {to mid : Stand} {n m r : ℕ} {ts : List Token} → Walk size to n mid m r (groupEnd ∷ ts) → (mayFollow mid Skip ≡ true) × Walk size to n (standAt (phaseAfter mid)) m 0 ts
+behind-end (leap h w) = (h .follows, w)
 
 -- Tokens and bytes of groups that are cut.
 grouped-cut : (before after : List (List Piece)) (left right : List Piece) (p : Piece) →
@@ -123,7 +124,7 @@ module _ (a : Account) {m : ℕ} (whole : List ℕ) (e : m ≡ length whole) whe
   stands-next : {p : Piece} (right : List Piece) (after : List (List Piece)) → OnlyTotal m p → TotalStands a whole [] ((p ∷ right) ∷ after)
   stands-next right after (only-total h) = first-in-next (h ∙ e)
 
-  total-follows : {n : ℕ} (f : Phase) (right : List Piece) (after : List (List Piece)) → Hand f a → Walk (standAt f) n AfterLast m (map piece right ++ (groupEnd ∷ grouped after)) →
+  total-follows : {size n r : ℕ} (f : Phase) (right : List Piece) (after : List (List Piece)) → Hand f a → Walk size (standAt f) n AfterLast m r (map piece right ++ (groupEnd ∷ grouped after)) →
       (right ≡ [] → after ≡ [] → a .begun ≡ whole) → TotalStands a whole right after
   unfolding grouped mayFollow
   total-follows f (p ∷ right) after hand w b = stands-there right after (after-last m p (fits-first w))
@@ -132,12 +133,12 @@ module _ (a : Account) {m : ℕ} (whole : List ℕ) (e : m ≡ length whole) whe
   total-follows f [] ((p ∷ ps) ∷ gs) hand w b = stands-next ps gs (where-owed m p (fits-first (behind-end w .1)))
 
 -- A walk goes on behind a last part, wherever that stood.
-behind-last : {to mid : Stand} {n m : ℕ} {q : List ℕ} {ts : List Token} → Walk to n mid m (piece (aLast q) ∷ ts) → Walk to n AfterLast (m + length q) ts
+behind-last : {size : ℕ} {to mid : Stand} {n m r : ℕ} {q : List ℕ} {ts : List Token} → Walk size to n mid m r (piece (aLast q) ∷ ts) → Walk size to n AfterLast (m + length q) (r + length q) ts
 unfolding kindOf countOf
 behind-last (step g w) = w
 
 -- Each last part of the groups.
-last-total : {n : ℕ} (a : Account) (f : Phase) (groups before after : List (List Piece)) (left right : List Piece) (q : List ℕ) → Hand f a → Walk (standAt f) n Free 0 (grouped groups) →
+last-total : {size n : ℕ} (a : Account) (f : Phase) (groups before after : List (List Piece)) (left right : List Piece) (q : List ℕ) → Hand f a → Walk size (standAt f) n Free 0 0 (grouped groups) →
     begunAfter [] (flat groups) ≡ a .begun → groups ≡ before ++ ((left ++ (aLast q ∷ right)) ∷ after) → TotalStands a (begunAfter (begunIn [] before) left ++ q) right after
 last-total a f groups before after left right q hand w b e =
     let tokens : grouped groups ≡ grouped before ++ (map piece left ++ (piece (aLast q) ∷ (map piece right ++ (groupEnd ∷ grouped after)))) =
@@ -174,7 +175,7 @@ between-at Inside = b-inside
 between-at AfterLast = b-owed
 between-at Owed = b-owed
 
-still-between : {to at : Stand} {n s : ℕ} (gs : List (List Piece)) → Between at → Walk to n at s (grouped gs) → Between to
+still-between : {size : ℕ} {to at : Stand} {n s r : ℕ} (gs : List (List Piece)) → Between at → Walk size to n at s r (grouped gs) → Between to
 unfolding grouped
 still-between [] b w = subst Between (nowhere w) b
 still-between (g ∷ gs) b w =
@@ -198,14 +199,14 @@ owed-by mid before left (aStart bs) e = let z : _≡_ {A = ℕ} 0 1 = cc in absu
 owed-by mid before left (aLast q) e = record { before = before; left = left; lastPart = q; ends = refl }
 owed-by mid before left (anEntire bs) e = let z : _≡_ {A = ℕ} 0 1 = cc in absurd (omega arith)
 
-behind-piece : {to mid : Stand} {n m : ℕ} {p : Piece} → Walk to n mid m (piece p ∷ groupEnd ∷ []) → standAt (phaseAfter (standAfter mid (kindOf p))) ≡ to
+behind-piece : {size : ℕ} {to mid : Stand} {n m r : ℕ} {p : Piece} → Walk size to n mid m r (piece p ∷ groupEnd ∷ []) → standAt (phaseAfter (standAfter mid (kindOf p))) ≡ to
 behind-piece (step f (leap h w)) = nowhere w
 
-end-in-last : {n : ℕ} (groups : List (List Piece)) → Walk Owed n Free 0 (grouped groups) → EndInLast groups
+end-in-last : {size n : ℕ} (groups : List (List Piece)) → Walk size Owed n Free 0 0 (grouped groups) → EndInLast groups
 unfolding grouped
-end-in-last {n} groups = by (snoc groups)
+end-in-last {size} {n} groups = by (snoc groups)
   where
-    last-group : (before : List (List Piece)) {ps : List Piece} → Snoc ps → Walk Owed n Free 0 (grouped (before ++ (ps ∷ []))) → EndInLast (before ++ (ps ∷ []))
+    last-group : (before : List (List Piece)) {ps : List Piece} → Snoc ps → Walk size Owed n Free 0 0 (grouped (before ++ (ps ∷ []))) → EndInLast (before ++ (ps ∷ []))
     last-group before none w =
         let c = cut (grouped before) (groupEnd ∷ []) (rw (grouped-append before ([] ∷ [])) at w) in
         let (may, rest) = behind-end (c .back) in
@@ -215,12 +216,12 @@ end-in-last {n} groups = by (snoc groups)
         let two = cut (map piece left) (piece p ∷ groupEnd ∷ []) (one .back) in
         owed-by (two .mid) before left p (behind-piece (two .back))
 
-    by : {gs : List (List Piece)} → Snoc gs → Walk Owed n Free 0 (grouped gs) → EndInLast gs
+    by : {gs : List (List Piece)} → Snoc gs → Walk size Owed n Free 0 0 (grouped gs) → EndInLast gs
     by none w = let e : Free ≡ Owed = nowhere w in let z : _≡_ {A = ℕ} 0 1 = cc in absurd (omega arith)
     by (some before ps) w = last-group before (snoc ps) w
 
 -- All bytes taken of a record that is not finished: its total is owed.
-all-taken : {n : ℕ} (a : Account) (f : Phase) (groups : List (List Piece)) → Hand f a → Walk (standAt f) n Free 0 (grouped groups) → 1 ≤ length (a .begun) → a .asked ≡ [] → EndInLast groups
+all-taken : {size n : ℕ} (a : Account) (f : Phase) (groups : List (List Piece)) → Hand f a → Walk size (standAt f) n Free 0 0 (grouped groups) → 1 ≤ length (a .begun) → a .asked ≡ [] → EndInLast groups
 all-taken a phase.Free groups hand w begun taken = absurd (omega (arith, ap length hand))
 all-taken a phase.Inside groups hand w begun taken = absurd (omega (arith, ap length taken))
 all-taken a phase.Owed groups hand w begun taken = end-in-last groups w

@@ -106,7 +106,7 @@ pub record Pictured (size limit left : ℕ) (g : List ℕ) (es : List Entry) (c 
   pub warns : b4Kept (c .warned) (b4After plain) ≡ true
   pub past : plain - suc (length pieces) ≡ left
   pub same : entriesOf plain (size - (c .reached + length (userData pieces))) pieces ≡ es
-  pub walks : (to : Stand) (n : ℕ) (rest : List Token) → Walk to n (standAt (phaseAfter (d .stand))) (d .sum) rest → Walk to n (c .stand) (c .sum) (map piece pieces ++ (groupEnd ∷ rest))
+  pub walks : (to : Stand) (n : ℕ) (rest : List Token) → Walk size to n (standAt (phaseAfter (d .stand))) (d .sum) 0 rest → Walk size to n (c .stand) (c .sum) (c .reached) (map piece pieces ++ (groupEnd ∷ rest))
   pub fits : c .reached + length (userData pieces) ≤ limit
   pub shows : userData pieces ≡ take (length (userData pieces)) (drop (c .reached) g)
 
@@ -128,10 +128,10 @@ module _ (size limit : ℕ) (g : List ℕ) (e : Entry) (c d : Cursor) (warned : 
   skip-counts : e .count ≡ size - c .reached
   skip-counts = eqb-true (e .count) (size - c .reached) (kept .skip)
 
-  skip-walks : (to : Stand) (n : ℕ) (rest : List Token) → Walk to n (standAt (phaseAfter (d .stand))) (d .sum) rest → Walk to n (c .stand) (c .sum) (groupEnd ∷ rest)
+  skip-walks : (to : Stand) (n : ℕ) (rest : List Token) → Walk size to n (standAt (phaseAfter (d .stand))) (d .sum) 0 rest → Walk size to n (c .stand) (c .sum) (c .reached) (groupEnd ∷ rest)
   skip-walks to n rest w =
-      leap ((both (mayFollow (c .stand) Skip) (isSkip Skip) (kept .follow)) .0)
-      (subst (λ (x : Cursor). Walk to n (standAt (phaseAfter (x .stand))) (x .sum) rest) (sym leads) w)
+      leap (record { follows = (both (mayFollow (c .stand) Skip) (isSkip Skip) (kept .follow)) .0; owes = rw skip-counts at (kept .owed) })
+      (subst (λ (x : Cursor). Walk size to n (standAt (phaseAfter (x .stand))) (x .sum) 0 rest) (sym leads) w)
 
   skip-pictured : (left : ℕ) → Plain warned left → Pictured size limit left g (e ∷ []) c d
   unfolding entriesOf userData
@@ -166,9 +166,9 @@ module _ (size limit left : ℕ) (g : List ℕ) (e : Entry) (es : List Entry) (c
   piece-fits : Fits (c .stand) (c .sum) p
   piece-fits = record { follows = (both (mayFollow (c .stand) (kindOf p)) (not (isSkip (kindOf p))) (kept .follow)) .0; kept = kept .counted; small = omega arith }
 
-  piece-walks : (to : Stand) (n : ℕ) (rest : List Token) → Walk to n (standAt (phaseAfter (f .stand))) (f .sum) rest →
-      Walk to n (c .stand) (c .sum) (piece p ∷ (map piece (q .pieces) ++ (groupEnd ∷ rest)))
-  piece-walks to n rest w = step piece-fits (subst (λ (x : Cursor). Walk to n (x .stand) (x .sum) (map piece (q .pieces) ++ (groupEnd ∷ rest))) (sym leads) (q .walks to n rest w))
+  piece-walks : (to : Stand) (n : ℕ) (rest : List Token) → Walk size to n (standAt (phaseAfter (f .stand))) (f .sum) 0 rest →
+      Walk size to n (c .stand) (c .sum) (c .reached) (piece p ∷ (map piece (q .pieces) ++ (groupEnd ∷ rest)))
+  piece-walks to n rest w = step piece-fits (subst (λ (x : Cursor). Walk size to n (x .stand) (x .sum) (x .reached) (map piece (q .pieces) ++ (groupEnd ∷ rest))) (sym leads) (q .walks to n rest w))
 
   piece-adds : length (dataOf p ++ userData (q .pieces)) ≡ length (dataOf p) + length (userData (q .pieces))
   piece-adds = length-append (dataOf p) (userData (q .pieces))

@@ -1,5 +1,6 @@
--- Document 01, "Bench table": the cases marked P as one list, with three on b4. Each writing is read back by the read call; each
--- reading is of a run from fresh. What is expected is written out whole: every answer, every byte of every closed group, every row.
+-- Document 01, "Bench table": the cases marked P as one list, with three on b4 and three on a total that is owed. Each writing is read
+-- back by the read call; each reading is of a run from fresh. What is expected is written out whole: every answer, every byte of every
+-- closed group, every row.
 -- Assumes nothing.
 use Prim.Native.Nat.{ℕ, zero, suc, _+_, _*_}
 use mathlib.Core.List.{List, [], _∷_, _++_}
@@ -383,5 +384,39 @@ b4WentOut =
       expected = readings (filling startRows ∷ refusing 9 1 3 ∷ []) (readerAt 2 phase.Inside true 24);
     }
 
+-- Change request 2026-06, "23 total owed too early, at entry 2, after 13": a last of 20 bytes and a skip of 44, after a start of 24. State
+-- and rows stay.
+abbrev pub owedEarly : Case
+owedEarly =
+    record {
+      given = reading (image 1 2 startGroup ∷ image 2 2 (from 25 20 ++ zeros 4 ++ (0x80 ∷ 0 ∷ 0 ∷ 44 ∷ 0x60 ∷ 0 ∷ 0 ∷ 20 ∷ []) ++ information) ∷ []);
+      expected = readings (filling startRows ∷ refusing 23 2 2 ∷ []) insideReader;
+    }
+
+-- The same group with a skip of 45: its count is wrong, which comes first.
+abbrev pub owedEarlyMiscounted : Case
+owedEarlyMiscounted =
+    record {
+      given = reading (image 1 2 startGroup ∷ image 2 2 (from 25 20 ++ zeros 4 ++ (0x80 ∷ 0 ∷ 0 ∷ 45 ∷ 0x60 ∷ 0 ∷ 0 ∷ 20 ∷ []) ++ information) ∷ []);
+      expected = readings (filling startRows ∷ refusing 13 2 2 ∷ []) insideReader;
+    }
+
+-- "skip counts 40 to 43": a last that fills its group beside a skip of 40, and its total in the next. P5 has the skip of 43.
+abbrev pub owedBesideForty : Case
+owedBesideForty =
+    record {
+      given =
+          reading
+          (image 1 2 startGroup
+          ∷ image 2 2 (from 25 24 ++ (0x80 ∷ 0 ∷ 0 ∷ 40 ∷ 0x60 ∷ 0 ∷ 0 ∷ 24 ∷ []) ++ information)
+          ∷ image 3 2 (zeros 24 ++ (0x80 ∷ 0 ∷ 0 ∷ 64 ∷ 0x01 ∷ 0 ∷ 0 ∷ 48 ∷ []) ++ information)
+          ∷ []);
+      expected =
+          readings (filling startRows ∷ filling (5 ∷ 0 ∷ 24 ∷ 7 ∷ 24 ∷ 40 ∷ []) ∷ filling (1 ∷ 0 ∷ 48 ∷ 7 ∷ 0 ∷ 64 ∷ []) ∷ [])
+          (freeReader 4);
+    }
+
 unfoldable pub benchTable : List Case
-benchTable = p1 ∷ p2 ∷ p3 ∷ p4 ∷ p5 ∷ p6 ∷ p7 ∷ p8 ∷ p9 ∷ p10 ∷ p11 ∷ p12 ∷ b4Onward ∷ b4OfAnOwedTotal ∷ b4WentOut ∷ []
+benchTable =
+    p1 ∷ p2 ∷ p3 ∷ p4 ∷ p5 ∷ p6 ∷ p7 ∷ p8 ∷ p9 ∷ p10 ∷ p11 ∷ p12 ∷ b4Onward ∷ b4OfAnOwedTotal ∷ b4WentOut
+    ∷ owedEarly ∷ owedEarlyMiscounted ∷ owedBesideForty ∷ []

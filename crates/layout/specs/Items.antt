@@ -5,7 +5,7 @@ use Prim.Native.Nat.{ℕ, _-_, _≤_}
 use mathlib.Core.List.{List, [], _∷_, _++_, map}
 use mathlib.Core.Bool.{Bool, true, false}
 use lib.ListN.{length}
-use Rattle.group.specs.Sizes.{longestRecord}
+use Rattle.group.specs.Sizes.{longestRecord, mostOwing}
 
 -- What a host writes: a record of bytes, or a Separator 1 (0) or Separator 2 (1).
 pub data Item : Type 0 where
@@ -97,9 +97,10 @@ pub data Each {A : Type 0} (P : A → Type 0) : List A → Type 0 where
 abbrev pub Part : List ℕ → Type 0
 Part p = 1 ≤ length p
 
--- "a skip after a last" is free, whatever room the group has: when a total may be owed, by L and the last part.
+-- Change request 2026-06: "The freedom "a skip after a last" narrows to skip counts 40 to 43." When a total may be owed, by L and the
+-- last part, beside which the skip is all the rest of the group. (40 is the least that a picture of the group has room for.)
 abbrev pub MayOwe : ℕ → List ℕ → Type 0
-MayOwe size q = Unit {0}
+MayOwe size q = size - length q ≤ mostOwing
 
 -- .. asked where the total is late.
 abbrev pub LateKept : ℕ → List ℕ → Bool → Type 0

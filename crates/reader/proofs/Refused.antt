@@ -19,7 +19,7 @@ use Rattle.group.proofs.EntryLaws.{length-entries}
 use Rattle.entry.specs.declared.Cursor.{Cursor}
 use Rattle.entry.specs.declared.ScanEnd.{ScanEnd}
 use Rattle.entry.specs.declared.ScanEnd.the-variants as scanned
-use Rattle.entry.specs.Rules.{b4Kept, followKept, zeroPart, aboveOne, tooLong, differs, orElse, roomKept, skipKept, entryFault}
+use Rattle.entry.specs.Rules.{b4Kept, followKept, zeroPart, aboveOne, tooLong, differs, orElse, roomKept, skipKept, owedKept, entryFault}
 use Rattle.entry.specs.Scan.{after, isLast, scan}
 use Rattle.reader.specs.declared.Reader.{Reader}
 use Rattle.reader.specs.declared.ReadAnswer.the-variants as answer
@@ -44,7 +44,8 @@ entry-numbered size limit last c (Known k w) count =
     (or-else
     (pick atEntry (zeroPart k count) 19 _ refl
     (pick atEntry (aboveOne k count) 20 _ refl (pick atEntry (tooLong k (c .sum) count) 21 _ refl (pick atEntry (differs k (c .sum) count) 22 0 refl (inl refl)))))
-    (pick atEntry (not (roomKept k (c .reached) count limit)) 12 _ refl (pick atEntry (not (skipKept k (c .reached) count size)) 13 0 refl (inl refl)))))
+    (pick atEntry (not (roomKept k (c .reached) count limit)) 12 _ refl
+    (pick atEntry (not (skipKept k (c .reached) count size)) 13 _ refl (pick atEntry (not (owedKept k (c .stand) count)) 23 0 refl (inl refl))))))
   where
     or-else : {fault rest : ℕ} → NoneOr atEntry fault → NoneOr atEntry rest → NoneOr atEntry (orElse fault rest)
     or-else {fault} {rest} f r = by (eqb fault 0)

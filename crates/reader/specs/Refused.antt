@@ -1,4 +1,4 @@
--- Document 01, "Numbers the firmware sees", with change request 2026-02: what a read that is refused answers.
+-- Document 01, "Numbers the firmware sees", with change requests 2026-02 and 2026-06: what a read that is refused answers.
 -- Assumes nothing.
 use Prim.Native.Nat.{ℕ, _≤_}
 use mathlib.Core.List.{List, [], _∷_}
@@ -13,12 +13,12 @@ isOneOf n [] = false
 isOneOf n (m ∷ ms) = eqb n m || isOneOf n ms
 
 -- "Read 1, 4, 5, 6, 7, then entry by entry": the numbers before the scan, and those at an entry, in their order. "11 is never given
--- again; in its place in the order come" 19 to 22.
+-- again; in its place in the order come" 19 to 22; 23 comes "after 13".
 abbrev pub beforeScan : List ℕ
 beforeScan = 1 ∷ 4 ∷ 5 ∷ 6 ∷ 7 ∷ []
 
 abbrev pub atEntry : List ℕ
-atEntry = 8 ∷ 9 ∷ 10 ∷ 19 ∷ 20 ∷ 21 ∷ 22 ∷ 12 ∷ 13 ∷ []
+atEntry = 8 ∷ 9 ∷ 10 ∷ 19 ∷ 20 ∷ 21 ∷ 22 ∷ 12 ∷ 13 ∷ 23 ∷ []
 
 -- "A refusal answers the number, the place (k for 8 to 13, else 0) and the state as given." Of a read of n entries from a state: the
 -- state, the number and the place that it answers.

@@ -19,7 +19,7 @@ use Rattle.entry.specs.declared.Cursor.{Cursor}
 use Rattle.entry.specs.declared.Stand.{Stand}
 use Rattle.entry.specs.declared.Stand.the-variants.{Free, AfterPart, Inside, AfterLast, Owed}
 use Rattle.entry.specs.declared.ScanEnd.the-variants.{Reached}
-use Rattle.entry.specs.Rules.{mayFollow, b4Kept, entryFault}
+use Rattle.entry.specs.Rules.{mayFollow, mayOwe, b4Kept, entryFault}
 use Rattle.entry.specs.Scan.{after}
 use Rattle.entry.specs.Bounds.{standNumber}
 use Rattle.entry.proofs.Faults.{no-fault}
@@ -46,11 +46,11 @@ unfolding mayFollow
 single-kept size limit w sum reached bytes e (separates f n b) small fits =
     rw (f, meaning-of-flag Separator w)
     (no-fault size limit false _ Separator w (e .count)
-    (record { b4 = same-b4 w; follow = refl; counted = n; room = le-leb reached limit (omega arith); skip = refl }))
+    (record { b4 = same-b4 w; follow = refl; counted = n; room = le-leb reached limit (omega arith); skip = refl; owed = refl }))
 single-kept size limit w sum reached bytes e (isEntire f n b) small fits =
     rw (f, meaning-of-flag Entire w)
     (no-fault size limit false _ Entire w (e .count)
-    (record { b4 = same-b4 w; follow = refl; counted = (n, small); room = le-leb (reached + e .count) limit (omega arith); skip = refl }))
+    (record { b4 = same-b4 w; follow = refl; counted = (n, small); room = le-leb (reached + e .count) limit (omega arith); skip = refl; owed = refl }))
 
 pub single-after : (w : Bool) (sum reached bytes : ℕ) (e : Entry) → Single w e bytes
     → after (freeAt w sum reached) (meaningOf (e .flag)) (e .count)
@@ -58,13 +58,14 @@ pub single-after : (w : Bool) (sum reached bytes : ℕ) (e : Entry) → Single w
 single-after w sum reached bytes e (separates f n b) = rw (f, meaning-of-flag Separator w, b, add-zero reached)
 single-after w sum reached bytes e (isEntire f n b) = rw (f, meaning-of-flag Entire w, b)
 
--- A skip of all that is left of the group, where a skip may follow, has no fault, and leaves the scan where it stands.
+-- A skip of all that is left of the group, where a skip may follow and owes no total too early, has no fault, and leaves the scan
+-- where it stands.
 pub skip-kept : (size limit : ℕ) (c : Cursor) (e : Entry) → e .flag ≡ flagOf Skip (c .warned) → e .count ≡ size - c .reached → c .reached ≤ limit → mayFollow (c .stand) Skip ≡ true
-    → entryFault size limit true c (meaningOf (e .flag)) (e .count) ≡ 0
-skip-kept size limit c e f n r h =
+    → mayOwe (c .stand) (size - c .reached) ≡ true → entryFault size limit true c (meaningOf (e .flag)) (e .count) ≡ 0
+skip-kept size limit c e f n r h o =
     rw (f, meaning-of-flag Skip (c .warned))
     (no-fault size limit true c Skip (c .warned) (e .count)
-    (record { b4 = same-b4 (c .warned); follow = rw h; counted = tt; room = le-leb _ _ r; skip = eq-eqb _ _ n }))
+    (record { b4 = same-b4 (c .warned); follow = rw h; counted = tt; room = le-leb _ _ r; skip = eq-eqb _ _ n; owed = rw n o }))
 
 pub skip-after : (c : Cursor) (e : Entry) → e .flag ≡ flagOf Skip (c .warned) → after c (meaningOf (e .flag)) (e .count) ≡ c
 skip-after c e f = rw (f, meaning-of-flag Skip (c .warned))
@@ -81,11 +82,11 @@ single-turn group size n left w sum reached bytes e two most is s small fits =
 
 pub skip-turn : (group : List ℕ) (size n left : ℕ) (c : Cursor) (e : Entry) → left ≡ 1 → 1 ≤ n → e ≡ entryAt group (entryOffset size n)
     → e .flag ≡ flagOf Skip (c .warned) → e .count ≡ size - c .reached → c .reached ≤ entryOffset size n → mayFollow (c .stand) Skip ≡ true
-    → Reached c ≡ scanLeft size n group left c
-skip-turn group size n left c e one some is f count r h =
+    → mayOwe (c .stand) (size - c .reached) ≡ true → Reached c ≡ scanLeft size n group left c
+skip-turn group size n left c e one some is f count r h o =
     let at : entryOffset size n + 4 * (left - 1) ≡ entryOffset size n = omega arith in
     let none : left - 1 ≡ 0 = omega arith in
     let last : eqb (left - 1) 0 ≡ true = eq-eqb (left - 1) 0 none in
     none-left group size n (left - 1) c none
     ∙ ap (scanLeft size n group (left - 1)) (sym (skip-after c e f))
-    ∙ sym (left-turn group size n left c e 0 (omega arith) (omega arith) (rw at is) (rw last (sym (skip-kept size (entryOffset size n) c e f count r h))))
+    ∙ sym (left-turn group size n left c e 0 (omega arith) (omega arith) (rw at is) (rw last (sym (skip-kept size (entryOffset size n) c e f count r h o))))

@@ -106,5 +106,8 @@ pub(crate) fn ends(group: &[u8], size: u32, entries: u32, left: u32, here: Curso
     let limit = size - Group::INFORMATION_LENGTH - Group::ENTRY_LENGTH * entries;
     let reached = here.reached;
     let skip = least(Kind::Skip, here.warned) + (size - reached);
-    group::entries::entry_word(group, limit as usize) == skip
+    if group::entries::entry_word(group, limit as usize) != skip {
+        return false;
+    }
+    rules::may_owe(stand, size - reached)
 }

@@ -5,5 +5,6 @@ pub mod Lays
 pub mod Warned
 pub mod Takes
 pub mod Rows
+pub mod Owing
 pub mod InOrder
 pub mod Theorems

@@ -41,7 +41,7 @@ kind-among (k ∷ ks) flag = by (eqb flag (flagOf k false)) (eqb flag (flagOf k 
     by false true e = refl
     by false false e = e
 
-kind-is : (e : Entry) → rowKind (meaningOf (e .flag)) ≡ kindIs e
+pub kind-is : (e : Entry) → rowKind (meaningOf (e .flag)) ≡ kindIs e
 unfolding meaningOf kindIs
 kind-is e = kind-among kinds (e .flag)
 

@@ -9,7 +9,7 @@ use Rattle.answer.specs.Answer.{refusalTold}
 use Rattle.reader.specs.declared.Reader.{Reader}
 use Rattle.reader.specs.declared.ReadAnswer.the-variants as answer
 use Rattle.reader.specs.Answer as reading
-use Rattle.reader.specs.Answer.{readerStartCall, asNumbers, Reads}
+use Rattle.reader.specs.Answer.{readerStartCall, readCall, asNumbers, Reads}
 use Rattle.laying.specs.Start.{writerStartCall}
 use Rattle.laying.specs.Laying.{Desk}
 use Rattle.writer.specs.Calls.{Call, call, told, startTold, stateOf}
@@ -20,12 +20,14 @@ use Rattle.twice.specs.Filled.{FilledBy}
 use Rattle.twice.specs.Laid.{LaidBy}
 use Rattle.twice.specs.Taking.{Proper}
 use Rattle.twice.specs.RowsAre.{RowsAre}
+use Rattle.twice.specs.Owing.{OwedEarlyIn}
 use Rattle.twice.specs.Orders.{FirstBroken, startRules, callRules, BeforeScan}
 use Rattle.twice.proofs.Fills as filling
 use Rattle.twice.proofs.Lays as laying
 use Rattle.twice.proofs.Warned as staying
 use Rattle.twice.proofs.Takes as taking
 use Rattle.twice.proofs.Rows as rowed
+use Rattle.twice.proofs.Owing as owing
 use Rattle.twice.proofs.InOrder as ordered
 
 -- "Closing sets the gap to zeros." Every close, from any state, leaves data, zeros, the skip and what stands behind it, with two
@@ -54,6 +56,15 @@ takes {w = w} c x n p = refusal-told c w ∙ taking.takes c x n p
 pub rows-are : (s t : Reader) (group : List ℕ) (number n : ℕ) (old rows : List ℕ) →
     Reads asNumbers s group number n (length old) old (answer.Accepted t) rows → RowsAre (s .size) n group old rows
 rows-are = rowed.rows-are
+
+-- 2026-06: "Refuse a group of two entries, last then skip, whose skip count is 44 or more." From no state is such a group accepted.
+pub owed-early-refused : (s t : Reader) (group : List ℕ) (number n room : ℕ) → OwedEarlyIn (s .size) n group → readCall s group number n room ≡ answer.Accepted t → ⊥
+owed-early-refused = owing.owed-early-refused
+
+-- "23 total owed too early, at entry 2": it is told of no other group, and nowhere else.
+pub owed-early-only : (s t : Reader) (group : List ℕ) (number n room place : ℕ) → readCall s group number n room ≡ answer.Refused t 23 place →
+    OwedEarlyIn (s .size) n group × (place ≡ 2)
+owed-early-only = owing.owed-early-only
 
 -- "Order: start 2, 3." What is told of a start, a reader's and a writer's, is the first of its rules that is broken.
 pub reader-start-order : (size first : ℕ) → FirstBroken (startRules size first) (refusalTold (reading.startTold (readerStartCall size first)))

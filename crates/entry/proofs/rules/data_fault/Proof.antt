@@ -5,7 +5,7 @@ use mathlib.Core.Path.{_≡_}
 use mathlib.Core.Bool.{true}
 use Rattle.numbers.proofs.Tests.{fails, holds}
 use Rattle.entry.specs.Rules.{isSkip, roomKept}
-use Rattle.entry.proofs.Faults.{skip-counted, skip-differs}
+use Rattle.entry.proofs.Faults.{skip-counted, skip-differs, skip-early}
 use Rattle.entry.proofs.rules.data_fault.Statement.{statement}
 use Rattle.entry.proofs.rules.data_fault.Tie as tie
 
@@ -27,7 +27,13 @@ data-fault-spec =
     (λ c. search needs)
     (λ c.
     let a = c .before .before .before .before .before .args in
-    skip-differs (a .size) (a .limit) (a .reached) (a .kind) (a .count) (fits (c .before .before .before)) (skips (c .before)) (c .if3 .taken))
+    skip-differs (a .size) (a .limit) (a .stand) (a .reached) (a .kind) (a .count) (fits (c .before .before .before)) (skips (c .before)) (c .if3 .taken))
+    (λ c κs. search needs)
     (λ c.
-    let a = c .before .before .before .before .before .args in
-    skip-counted (a .size) (a .limit) (a .reached) (a .kind) (a .count) (fits (c .before .before .before)) (skips (c .before)) (c .if3 .left)))
+    let b = c .before .before in
+    let a = b .before .before .before .before .before .args in
+    skip-early (a .size) (a .limit) (a .stand) (a .reached) (a .kind) (a .count) (fits (b .before .before .before)) (skips (b .before)) (b .if3 .left) (fails (c .before .may-owe .ensures) (c .if4 .taken)))
+    (λ c.
+    let b = c .before .before in
+    let a = b .before .before .before .before .before .args in
+    skip-counted (a .size) (a .limit) (a .stand) (a .reached) (a .kind) (a .count) (fits (b .before .before .before)) (skips (b .before)) (b .if3 .left) (holds (c .before .may-owe .ensures) (c .if4 .left))))

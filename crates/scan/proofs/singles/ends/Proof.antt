@@ -1,7 +1,6 @@
 -- `ends` meets its contract: the number of a skip of all that is left. Assumes nothing.
 use borrow.Author.Needs.{needs}
-use borrow.Author.Tests.{eqb-true}
-use mathlib.Core.Path.{_≡_, refl, ap}
+use mathlib.Core.Path.{_≡_, refl, sym, ap, _∙_}
 use mathlib.Core.Bool.{Bool, true, false, cond}
 use Prim.Native.Nat.{ℕ, _+_, _-_}
 use native.Mathlib.Omega.{arith}
@@ -15,14 +14,16 @@ use Rattle.scan.proofs.singles.ends.Tie as tie
 never : {A : Type 0} → false ≡ true → A
 never e = let z : _≡_ {A = ℕ} 0 1 = ap (λ (b : Bool). cond b 1 0) e in absurd (omega arith)
 
-ended : tie.Need-returns-3
+ended : tie.Need-returns-4
 ended c x =
-    let s = c .before .before .before .before .before .before in
-    let w = c .entry-word .ensures in
-    let f = c .before .least .ensures in
-    let t = eqb-true (c .entry-word .result) (c .before .least .result + (s .args .size - s .args .here .reached)) x in
+    let d = c .before .before in
+    let s = d .before .before .before .before .before .before in
+    let w = d .entry-word .ensures in
+    let f = d .before .least .ensures in
+    let t = c .before .if3 .left in
     let r = s .pre .1 .reached in
-    skip-turn _ _ _ (s .args .left) (s .args .here) _ (c .before .before .before .before .if1 .left) (omega arith) refl (omega (arith, w .is, w .small, f, t, r)) (omega (arith, w .is, w .small, f, t, r)) r (holds (c .before .before .before .may-end .ensures) (c .before .before .if2 .left))
+    skip-turn _ _ _ (s .args .left) (s .args .here) _ (d .before .before .before .before .if1 .left) (omega arith) refl (omega (arith, w .is, w .small, f, t, r)) (omega (arith, w .is, w .small, f, t, r)) r
+    (holds (d .before .before .before .may-end .ensures) (d .before .before .if2 .left)) (sym (c .may-owe .ensures) ∙ x)
 
 pub ends-spec : {M : Type 1} → statement M
 ends-spec =
@@ -39,4 +40,7 @@ ends-spec =
     (λ c. omega (arith, c .least .ensures, flag-small Skip (c .before .before .before .before .before .args .here .warned)))
     (λ c. omega arith)
     (λ c κs. omega arith)
+    (λ c x. never x)
+    (λ c. omega (arith, c .before .before .before .before .before .before .before .pre .1 .reached))
+    (λ c κs. search needs)
     ended)
