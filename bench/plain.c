@@ -11,7 +11,7 @@
 
 enum { TOTAL = 1, SEPARATOR, MIDDLE, START, LAST, ENTIRE, SKIP };
 enum { FREE, INSIDE, OWED, PARTED, ENDED }; /* the last two within a group: after a start or middle, after a last */
-enum { STANDARD = 126632, LONGEST = 16777215, NO_NUMBER = 65536 };
+enum { STANDARD = 126632, LONGEST = 16777215, NO_NUMBER = 65536, MOST_OWING = 43 };
 enum { READER_LEN = 24, WRITER_LEN = 32, ANSWER_LEN = 24 };
 
 /* a number from or to its four bytes, most significant first, moved as one word */
@@ -149,6 +149,7 @@ static uint32_t judge(const uint8_t *group, uint32_t size, uint32_t n, carried *
             break;
         default:
             if (count != size - data) return 13;
+            if (where == ENDED && count > MOST_OWING) return 23;
             continue;
         }
         if (count > limit - data) return 12;

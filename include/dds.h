@@ -30,13 +30,13 @@ extern "C" {
 
 /* ---- Version
 
-   How many change requests have landed, then the last of them, as one decimal number: 7, and 2026-05. Each landing makes it
+   How many change requests have landed, then the last of them, as one decimal number: 8, and 2026-06. Each landing makes it
    greater, so it compares, also where a request of a lower number lands later. Header and archive of one build belong together.
 
    States are not kept across versions: in another a state may have other fields or another length. A run is ended before the
    change, or started anew after it. */
 
-#define DDS_VERSION 7202605u
+#define DDS_VERSION 8202606u
 
 /* ---- Sizes */
 
@@ -98,7 +98,7 @@ extern "C" {
 /* ---- Fields of the answer */
 
 #define DDS_ANSWER_REFUSAL 0u          /* the number the call returns too */
-#define DDS_ANSWER_PLACE   4u          /* refusals 8 to 13 and 19 to 22: the entry, from 1; 31 to 34: the block; 43: the column */
+#define DDS_ANSWER_PLACE   4u          /* refusals 8 to 13 and 19 to 23: the entry, from 1; 31 to 34: the block; 43: the column */
 #define DDS_ANSWER_OUTCOME 8u          /* DDS_OUTCOME_.. */
 #define DDS_ANSWER_NUMBER  12u         /* at a close: the closed group's number */
 #define DDS_ANSWER_ENTRIES 16u         /* at a close: its entry count, an owed total and the skip counted */
@@ -219,6 +219,7 @@ extern "C" {
 #define DDS_REFUSED_ABOVE_ONE     20u  /* a separator above 1: read, at an entry */
 #define DDS_REFUSED_TOO_LONG      21u  /* parts that add up to too long a record: read, at an entry */
 #define DDS_REFUSED_TOTAL_DIFFERS 22u  /* a total that is not the sum of its parts: read, at an entry */
+#define DDS_REFUSED_OWED_EARLY    23u  /* a total owed too early, a skip of 44 or more behind a last: read, at entry 2 */
 #define DDS_REFUSED_LENGTH        30u  /* a buffer's length is not its own: make, read of a track */
 #define DDS_REFUSED_PARITY        31u  /* parity is not SW1 exclusive or SW2: read of a track, at a block */
 #define DDS_REFUSED_SW1           32u  /* Area ID not allowed: make; SW1 not this track's: read, at a block */
@@ -277,11 +278,11 @@ uint32_t dds_writer_start(uint32_t size, uint32_t first, uint8_t *state, size_t 
    So the rows are not this group's: do not use them, and go on to the next group. Only the group's length and number are looked
    at, and not its bytes, the entry count or the rows. There may be any number of repeats, one behind the other, behind a refused
    group and behind group 65,535. Before any group has been accepted in the run there is none.
-   Refused: state and rows stay as they were; the answer says the number and, for 8 to 13 and 19 to 22, the entry. The same
+   Refused: state and rows stay as they were; the answer says the number and, for 8 to 13 and 19 to 23, the entry. The same
    state may then be tried on another group.
    Refusals in order: 1, 4; here a repeat is told; 5, 6, 7; then entry by entry from 1, and at one entry 8, 9, 10, one of 19 to
-   22, 12, 13. The first entry that breaks a rule is the one told. b4 goes on from group to group: where the state has it set,
-   entry 1 is 9 without it.
+   22, 12, 13, 23. The first entry that breaks a rule is the one told. b4 goes on from group to group: where the state has it set,
+   entry 1 is 9 without it. A total is owed only where it had no room: behind a last a skip counts 40 to 43, or is 23.
 
    So a run is read by
 

@@ -245,7 +245,13 @@ static num count_refusal(num sum, num kind, num count)
 /* a scan over entries 1 to n: where it stands before entry k */
 typedef struct { num where, sum, data, b4; } standing;
 
-/* the first rule that entry k breaks: 8, 9, 10, 19 to 22, 12 or 13; 0 if none */
+/* document 02, request 2026-06: "a group of two entries, last then skip, whose skip count is 44 or more" */
+static int owed_early(const standing *s, num kind, num count, num n)
+{
+    return n == 2 && s->where == AFTER_LAST && kind == SKIP && count >= 44;
+}
+
+/* the first rule that entry k breaks: 8, 9, 10, 19 to 22, 12, 13 or 23; 0 if none */
 static num entry_refusal(const standing *s, const uint8_t *entry, num size, num n, num k)
 {
     num kind = kind_of_flag(entry[0]), count = entry_count(entry);
@@ -256,6 +262,7 @@ static num entry_refusal(const standing *s, const uint8_t *entry, num size, num 
     if (count_refusal(s->sum, kind, count)) return count_refusal(s->sum, kind, count);
     if (has_data(kind) && s->data + count > entry_offset(size, n)) return 12;
     if (kind == SKIP && count != size - s->data) return 13;
+    if (owed_early(s, kind, count, n)) return 23;
     return 0;
 }
 

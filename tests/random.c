@@ -1,6 +1,6 @@
-/* Single calls at random, compared with the model: states sound, nearly sound and garbage; groups random, lawful and
-   lawful but for a few bytes; lengths and arguments right and wrong. COUNT is how many of each kind: random [COUNT].
-   Before them every flag at an entry, at each place of a scan. */
+/* Single calls at random, compared with the model: states sound, nearly sound and garbage; groups random, lawful, lawful but
+   for a few bytes, and lawful but for a total that may be owed too early; lengths and arguments right and wrong. COUNT is how
+   many of each kind: random [COUNT]. Before them every flag at an entry, at each place of a scan. */
 
 #include "groups.h"
 #include "pair.h"
@@ -74,6 +74,7 @@ static void lawful(uint8_t *group, uint32_t size, uint32_t n, uint32_t phase, ui
         else if (k + 1 == n && left && one_in(2)) kind = 4;
         else kind = left && one_in(2) ? 6 : 2;
         count = left == 0 ? 0 : one_in(4) ? left : 1 + below(one_in(2) ? left : left < 6 ? left : 6);
+        if (kind == 5 && k + 1 == n) count = left - below(4); /* no room for the total, which is owed */
         if (kind == 7) count = size - data;
         else if (kind == 1) count = sum;
         else if (kind == 2) count = below(2);
@@ -82,6 +83,15 @@ static void lawful(uint8_t *group, uint32_t size, uint32_t n, uint32_t phase, ui
         sum = kind == 4 ? count : kind == 3 || kind == 5 ? sum + count : 0;
         put(group + size - 32 - 4 * k, (uint32_t)(flag[kind] | (k > b4 ? 8 : 0)) << 24 | (count & 0xFFFFFF));
     }
+}
+
+/* a last and a skip, two entries, whose counts add up to the size: the total is owed for want of room, or too early */
+static void owing(uint8_t *group, uint32_t size, uint32_t warned, uint32_t *n)
+{
+    uint32_t skip = 40 + below(one_in(2) ? 8 : size - 40), b4 = warned ? 0 : below(3);
+    *n = 2;
+    put(group + size - 36, (b4 < 1 ? 0x68000000 : 0x60000000) | (size - skip));
+    put(group + size - 40, (b4 < 2 ? 0x88000000 : 0x80000000) | skip);
 }
 
 static void spoil(uint8_t *group, uint32_t size, uint32_t n)
@@ -139,13 +149,32 @@ static uint32_t some_group(const desk *d)
     return field(d, DDS_STATE_NEXT) - (one_in(6) ? 1 : 0);
 }
 
-static long repeats; /* reads that told a repeat */
+static long repeats;         /* reads that told a repeat */
+static long owed, owed_43;   /* a last and a skip that were accepted, and those of them with a skip of 43 */
+static long early, early_44; /* a last and a skip that were refused with 23, and those of them with a skip of 44 */
+
+/* counts a read that was accepted, or refused with 23 */
+static void count_owing(const desk *d, uint32_t n, uint32_t refusal)
+{
+    uint32_t skip;
+    if (n != 2 || (*entry(&d->of[GROUP], 1) & 0xF7) != DDS_FLAG_LAST) return;
+    skip = get(entry(&d->of[GROUP], 2)) & 0xFFFFFF;
+    if (refusal) { early++; early_44 += skip == 44; } else { owed++; owed_43 += skip == 43; }
+}
+
+static void too_few(long found, long enough, const char *what)
+{
+    if (found >= enough) return;
+    fprintf(stderr, "  %ld %s are too few\n", found, what);
+    failures++;
+}
 
 static void reads_some(desk *d, long count)
 {
     slice *group = &d->of[GROUP], *rows = &d->of[ROWS];
     while (count--) {
-        uint32_t size, n, most, how = below(8), number;
+        uint32_t size, n, most, how = below(8), number, refusal;
+        int repeat;
         some_state(d, DDS_READER_LEN, some_size());
         if (one_in(20)) put(d->of[STATE].at + DDS_READER_ACCEPTED, below(3));
         size = (uint32_t)group->len;
@@ -155,7 +184,9 @@ static void reads_some(desk *d, long count)
         if (how == 0) {
             fill(group);
         } else {
-            lawful(group->at, size, n, field(d, DDS_STATE_PHASE), field(d, DDS_STATE_SUM), field(d, DDS_READER_B4));
+            uint32_t phase = field(d, DDS_STATE_PHASE), b4 = field(d, DDS_READER_B4);
+            if (phase == DDS_PHASE_INSIDE && one_in(4)) owing(group->at, size, b4, &n);
+            else lawful(group->at, size, n, phase, field(d, DDS_STATE_SUM), b4);
             if (how > 3) spoil(group->at, size, n);
         }
         number = some_group(d);
@@ -163,7 +194,10 @@ static void reads_some(desk *d, long count)
         resize(rows, n > most ? below(200) : one_in(60) ? below(12 * n + 1) : 12 * n + below(20));
         memset(rows->at, (int)below(256), rows->len);
         wrong_lengths(d);
-        if (both(d, READ, number, n, 0) == 0) repeats += get(d->of[ANSWER].at + DDS_ANSWER_OUTCOME) == DDS_OUTCOME_REPEAT;
+        refusal = both(d, READ, number, n, 0);
+        repeat = refusal == 0 && get(d->of[ANSWER].at + DDS_ANSWER_OUTCOME) == DDS_OUTCOME_REPEAT;
+        repeats += repeat;
+        if ((refusal == 0 && !repeat) || refusal == 23) count_owing(d, n, refusal);
     }
 }
 
@@ -172,8 +206,9 @@ static void reads_some(desk *d, long count)
 static void every_flag(desk *d)
 {
     static const struct { uint32_t phase, before; } places[] = { { 0, 0 }, { 1, 0 }, { 2, 0 }, { 0, 0x07000000 },
-        { 2, 0x01000009 }, { 0, 0x63000001 }, { 0, 0x42000001 }, { 1, 0x40000001 }, { 1, 0x60000001 } };
-    static const uint32_t counts[] = { 0, 1, 2, 9, 10, 63, 64 };
+        { 2, 0x01000009 }, { 0, 0x63000001 }, { 0, 0x42000001 }, { 1, 0x40000001 }, { 1, 0x60000001 }, { 1, 0x60000014 },
+        { 1, 0x60000015 } };
+    static const uint32_t counts[] = { 0, 1, 2, 9, 10, 29, 43, 44, 63, 64 };
     uint32_t place, b4, flag, count, behind;
     resize(&d->of[STATE], DDS_READER_LEN);
     resize(&d->of[GROUP], 64);
@@ -183,7 +218,7 @@ static void every_flag(desk *d)
             for (flag = 0; flag < 256; flag++)
                 for (count = 0; count < sizeof counts / sizeof *counts; count++)
                     for (behind = 0; behind < 3; behind++) {
-                        uint32_t n = 0, data = places[place].before >> 30 & 1;
+                        uint32_t n = 0, data = places[place].before >> 30 & 1 ? places[place].before & 0xFFFFFF : 0;
                         put_reader(d->of[STATE].at, 64, 7, places[place].phase, places[place].phase ? 9 : 0, b4, 0);
                         memset(d->of[GROUP].at, LENT, 64);
                         if (places[place].before) put(entry(&d->of[GROUP], ++n), places[place].before | b4 << 27);
@@ -278,7 +313,13 @@ int main(int argc, char **argv)
     starts_some(&d, count / 4);
     long_records();
     leave(&d);
-    came_up(count, 10000, LIST(0, 1, 2, 3, 4, 5, 6, 7, 8, 9, 10, 12, 13, 14, 15, 16, 17, 18, 19, 20, 21, 22));
-    if (count >= 10000 && repeats < count / 50) { fprintf(stderr, "  %ld repeats are too few\n", repeats); failures++; }
+    came_up(count, 10000, LIST(0, 1, 2, 3, 4, 5, 6, 7, 8, 9, 10, 12, 13, 14, 15, 16, 17, 18, 19, 20, 21, 22, 23));
+    if (count >= 10000) {
+        too_few(repeats, count / 50, "repeats");
+        too_few(owed, count / 200, "groups of last and skip that were accepted");
+        too_few(owed_43, count / 2000, "of them with a skip of 43");
+        too_few(early, count / 200, "groups of last and skip that were refused with 23");
+        too_few(early_44, count / 2000, "of them with a skip of 44");
+    }
     return finish_pairs("random");
 }

@@ -1,6 +1,6 @@
-/* Readings 13 to 21, and request 2026-05: one group read, or a repeat told. Tables are given as flag and count in one word,
-   entry 1 first; the rest of each group is bytes EE, so that data, gap and the last 32 bytes are never what is expected. L = 64
-   unless it is said: data may reach 32 - 4n. */
+/* Readings 13 to 21, and requests 2026-05 and 2026-06: one group read, or a repeat told. Tables are given as flag and count in
+   one word, entry 1 first; the rest of each group is bytes EE, so that data, gap and the last 32 bytes are never what is
+   expected. L = 64 unless it is said: data may reach 32 - 4n. */
 
 #include "groups.h"
 
@@ -122,8 +122,11 @@ static void reading_16(void)
     ACCEPTED("reading 16: a middle to 16,777,214", 1, 16777213, 1, 16777214,
              "00 00 00 03 00 00 00 00 00 00 00 01 00 00 00 07 00 00 00 01 00 00 00 3F", 0x40000001, 0x8000003F);
     REFUSED("reading 16: a last to 16,777,216", 1, 16777214, 21, 1, 0x60000002, 0x8000003E);
-    ACCEPTED("reading 16: a last to 16,777,215", 1, 16777214, 2, 16777215,
-             "00 00 00 05 00 00 00 00 00 00 00 01 00 00 00 07 00 00 00 01 00 00 00 3F", 0x60000001, 0x8000003F);
+    ACCEPTED("reading 16: a last to 16,777,215", 1, 16777194, 2, 16777215,
+             "00 00 00 05 00 00 00 00 00 00 00 15 00 00 00 07 00 00 00 15 00 00 00 2B", 0x60000015, 0x8000002B);
+    ACCEPTED("reading 16: a last of 1 to 16,777,215", 1, 16777214, 0, 0,
+             "00 00 00 05 00 00 00 00 00 00 00 01 00 00 00 01 00 00 00 01 00 FF FF FF 00 00 00 07 00 00 00 01 00 00 00 3F",
+             0x60000001, 0x01FFFFFF, 0x8000003F);
     ACCEPTED("reading 16: a total of 16,777,215", 2, 16777215, 0, 0,
              "00 00 00 01 00 00 00 00 00 FF FF FF 00 00 00 07 00 00 00 00 00 00 00 40", 0x01FFFFFF, 0x80000040);
     REFUSED("reading 16: a skip of 0 is 13", 0, 0, 13, 1, 0x80000000);
@@ -188,8 +191,8 @@ static void reading_20(void)
     ACCEPTED("reading 20: a skip after a total", 1, 5, 0, 0,
              "00 00 00 05 00 00 00 00 00 00 00 03 00 00 00 01 00 00 00 03 00 00 00 08 00 00 00 07 00 00 00 03 00 00 00 3D",
              0x60000003, 0x01000008, 0x8000003D);
-    ACCEPTED("reading 20: a skip after a last", 1, 5, 2, 8,
-             "00 00 00 05 00 00 00 00 00 00 00 03 00 00 00 07 00 00 00 03 00 00 00 3D", 0x60000003, 0x8000003D);
+    ACCEPTED("reading 20: a skip after a last", 1, 5, 2, 26,
+             "00 00 00 05 00 00 00 00 00 00 00 15 00 00 00 07 00 00 00 15 00 00 00 2B", 0x60000015, 0x8000002B);
     ACCEPTED("reading 20: a middle", 1, 5, 1, 8,
              "00 00 00 03 00 00 00 00 00 00 00 03 00 00 00 07 00 00 00 03 00 00 00 3D", 0x40000003, 0x8000003D);
     REFUSED("reading 20: a second total", 2, 9, 10, 2, 0x01000009, 0x01000009, 0x80000040);
@@ -478,6 +481,176 @@ static void repeat_numbers(void)
                 }
 }
 
+/* ---- Request 2026-06: a skip behind a last owes the total. It may where the total had no room: its count is then 40 to 43. */
+
+/* groups of two entries, at L = 64 and at the standard size; the refusal and its place, or zeros where they are accepted */
+static const struct { const char *name; uint32_t size, last, skip, refusal, place; } owing[] = {
+    { "skip 40, the least", 64, 0x60000018, 0x80000028, 0, 0 },
+    { "skip 41", 64, 0x60000017, 0x80000029, 0, 0 },
+    { "skip 42", 64, 0x60000016, 0x8000002A, 0, 0 },
+    { "skip 43, the greatest", 64, 0x60000015, 0x8000002B, 0, 0 },
+    { "skip 43 with b4", 64, 0x68000015, 0x8800002B, 0, 0 },
+    { "skip 44", 64, 0x60000014, 0x8000002C, 23, 2 },
+    { "skip 45", 64, 0x60000013, 0x8000002D, 23, 2 },
+    { "skip 63, behind one byte", 64, 0x60000001, 0x8000003F, 23, 2 },
+    { "skip 44 with b4", 64, 0x68000014, 0x8800002C, 23, 2 },
+    { "skip 44, where b4 begins", 64, 0x60000014, 0x8800002C, 23, 2 },
+    { "skip 44 that drops b4 is 9", 64, 0x68000014, 0x8000002C, 9, 2 },
+    { "flag 81 in its place is 8", 64, 0x60000014, 0x8100002C, 8, 2 },
+    { "a right 44 told as 45 is 13", 64, 0x60000014, 0x8000002D, 13, 2 },
+    { "a right 44 told as 43 is 13", 64, 0x60000014, 0x8000002B, 13, 2 },
+    { "a right 43 told as 44 is 13", 64, 0x60000015, 0x8000002C, 13, 2 },
+    { "a right 43 told as 42 is 13", 64, 0x60000015, 0x8000002A, 13, 2 },
+    { "a right 40 told as 64 is 13", 64, 0x60000018, 0x80000040, 13, 2 },
+    { "a right 63 told as 16,777,215 is 13", 64, 0x60000001, 0x80FFFFFF, 13, 2 },
+    { "a last of 25 is 12", 64, 0x60000019, 0x80000027, 12, 1 },
+    { "a last of 25, and a skip told as 44, is 12", 64, 0x60000019, 0x8000002C, 12, 1 },
+    { "a last of 0 is 19", 64, 0x60000000, 0x80000040, 19, 1 },
+    { "skip 40, the least", 126632, 0x6001EE80, 0x80000028, 0, 0 },
+    { "skip 41", 126632, 0x6001EE7F, 0x80000029, 0, 0 },
+    { "skip 42", 126632, 0x6001EE7E, 0x8000002A, 0, 0 },
+    { "skip 43, the greatest", 126632, 0x6001EE7D, 0x8000002B, 0, 0 },
+    { "skip 43 with b4", 126632, 0x6801EE7D, 0x8800002B, 0, 0 },
+    { "skip 44", 126632, 0x6001EE7C, 0x8000002C, 23, 2 },
+    { "skip 45", 126632, 0x6001EE7B, 0x8000002D, 23, 2 },
+    { "skip 256 + 43", 126632, 0x6001ED7D, 0x8000012B, 23, 2 },
+    { "skip 65,536 + 43", 126632, 0x6000EE7D, 0x8001002B, 23, 2 },
+    { "skip 126,631, behind one byte", 126632, 0x60000001, 0x8001EEA7, 23, 2 },
+    { "skip 44 with b4", 126632, 0x6801EE7C, 0x8800002C, 23, 2 },
+    { "skip 44, where b4 begins", 126632, 0x6001EE7C, 0x8800002C, 23, 2 },
+    { "skip 44 that drops b4 is 9", 126632, 0x6801EE7C, 0x8000002C, 9, 2 },
+    { "flag 81 in its place is 8", 126632, 0x6001EE7C, 0x8100002C, 8, 2 },
+    { "a right 44 told as 45 is 13", 126632, 0x6001EE7C, 0x8000002D, 13, 2 },
+    { "a right 44 told as 43 is 13", 126632, 0x6001EE7C, 0x8000002B, 13, 2 },
+    { "a right 43 told as 44 is 13", 126632, 0x6001EE7D, 0x8000002C, 13, 2 },
+    { "a right 43 told as 42 is 13", 126632, 0x6001EE7D, 0x8000002A, 13, 2 },
+    { "a right 40 told as 126,632 is 13", 126632, 0x6001EE80, 0x8001EEA8, 13, 2 },
+    { "a right 126,631 told as 16,777,215 is 13", 126632, 0x60000001, 0x80FFFFFF, 13, 2 },
+    { "a last of 126,593 is 12", 126632, 0x6001EE81, 0x80000027, 12, 1 },
+    { "a last of 126,593, and a skip told as 44, is 12", 126632, 0x6001EE81, 0x8000002C, 12, 1 },
+    { "a last of 0 is 19", 126632, 0x60000000, 0x8001EEA8, 19, 1 },
+};
+
+/* each of them inside a record of which 30 bytes were read, as the first group of a run and as a later one */
+static void owed_by_two_entries(void)
+{
+    size_t i;
+    uint32_t accepted, k;
+    for (i = 0; i < sizeof owing / sizeof *owing; i++)
+        for (accepted = 0; accepted < 2; accepted++) {
+            const uint32_t last = owing[i].last & 0xFFFFFF, rows[6] = { 5, 0, last, 7, last, owing[i].skip & 0xFFFFFF };
+            desk s = reader_with(owing[i].size, 7, 1, 30, 0, accepted);
+            table(&s, LIST(owing[i].last, owing[i].skip));
+            reads(&s, 7, 2);
+            if (owing[i].refusal) refused(&s, owing[i].name, owing[i].refusal, owing[i].place);
+            else {
+                finished(&s, owing[i].name);
+                reader_b4_is(&s, owing[i].name, owing[i].size, 8, 2, 30 + last, owing[i].skip >> 27 & 1);
+                for (k = 0; k < 6; k++) check(get(s.of[ROWS].at + 4 * k) == rows[k], owing[i].name, "row");
+            }
+            leave(&s);
+        }
+}
+
+/* whatever the sum is, and b4 of the state; a skip before entry n is 10 before it is anything else */
+static void owed_from_any_state(void)
+{
+    REFUSED("skip 44 after the least sum", 1, 1, 23, 2, 0x60000014, 0x8000002C);
+    REFUSED("skip 44 to 16,777,214", 1, 16777194, 23, 2, 0x60000014, 0x8000002C);
+    REFUSED("skip 44 to 16,777,215", 1, 16777195, 23, 2, 0x60000014, 0x8000002C);
+    REFUSED("skip 44 to 16,777,216 is 21 at the last", 1, 16777196, 21, 1, 0x60000014, 0x8000002C);
+    REFUSED("skip 63 to 16,777,215", 1, 16777214, 23, 2, 0x60000001, 0x8000003F);
+    REFUSED_B4("skip 44, b4 set before", 1, 9, 1, 23, 2, 0x68000014, 0x8800002C);
+    REFUSED_B4("skip 44 that drops b4, set before", 1, 9, 1, 9, 2, 0x68000014, 0x8000002C);
+    REFUSED("skip 44 behind a last, and one more skip", 1, 9, 10, 2, 0x60000014, 0x8000002C, 0x8000002C);
+    REFUSED("a last and skip 44 where no record is open", 0, 0, 10, 1, 0x60000014, 0x8000002C);
+    REFUSED("a last and skip 44 where a total is owed", 2, 9, 10, 1, 0x60000014, 0x8000002C);
+}
+
+/* where nothing is owed a skip may count 44 and more: behind a last with its total, and behind every other kind */
+static void nothing_owed(void)
+{
+    static const struct { const char *name; uint32_t size, phase, sum, phase_left, sum_left, n, entries[3], rows[9]; } wide[] = {
+        { "a last of L - 44 and its total", 64, 1, 30, 0, 0, 3, { 0x60000014, 0x01000032, 0x8000002C },
+          { 5, 0, 20, 1, 20, 50, 7, 20, 44 } },
+        { "a last of one byte and its total", 64, 1, 30, 0, 0, 3, { 0x60000001, 0x0100001F, 0x8000003F },
+          { 5, 0, 1, 1, 1, 31, 7, 1, 63 } },
+        { "a middle of L - 44", 64, 1, 30, 1, 50, 2, { 0x40000014, 0x8000002C }, { 3, 0, 20, 7, 20, 44 } },
+        { "a start of L - 44", 64, 0, 0, 1, 20, 2, { 0x42000014, 0x8000002C }, { 4, 0, 20, 7, 20, 44 } },
+        { "an entire record of L - 44", 64, 0, 0, 0, 0, 2, { 0x63000014, 0x8000002C }, { 6, 0, 20, 7, 20, 44 } },
+        { "a separator", 64, 0, 0, 0, 0, 2, { 0x07000001, 0x80000040 }, { 2, 0, 1, 7, 0, 64 } },
+        { "an owed total", 64, 2, 30, 0, 0, 2, { 0x0100001E, 0x80000040 }, { 1, 0, 30, 7, 0, 64 } },
+        { "a last of L - 44 and its total", 126632, 1, 30, 0, 0, 3, { 0x6001EE7C, 0x0101EE9A, 0x8000002C },
+          { 5, 0, 126588, 1, 126588, 126618, 7, 126588, 44 } },
+        { "a last of one byte and its total", 126632, 1, 30, 0, 0, 3, { 0x60000001, 0x0100001F, 0x8001EEA7 },
+          { 5, 0, 1, 1, 1, 31, 7, 1, 126631 } },
+        { "a middle of L - 44", 126632, 1, 30, 1, 126618, 2, { 0x4001EE7C, 0x8000002C }, { 3, 0, 126588, 7, 126588, 44 } },
+        { "a start of L - 44", 126632, 0, 0, 1, 126588, 2, { 0x4201EE7C, 0x8000002C }, { 4, 0, 126588, 7, 126588, 44 } },
+        { "an entire record of L - 44", 126632, 0, 0, 0, 0, 2, { 0x6301EE7C, 0x8000002C }, { 6, 0, 126588, 7, 126588, 44 } },
+        { "an owed total", 126632, 2, 30, 0, 0, 2, { 0x0100001E, 0x8001EEA8 }, { 1, 0, 30, 7, 0, 126632 } },
+    };
+    size_t i;
+    uint32_t k;
+    for (i = 0; i < sizeof wide / sizeof *wide; i++) {
+        desk s = reader(wide[i].size, 7, wide[i].phase, wide[i].sum);
+        table(&s, wide[i].n, wide[i].entries);
+        reads(&s, 7, wide[i].n);
+        finished(&s, wide[i].name);
+        reader_is(&s, wide[i].name, wide[i].size, 8, wide[i].phase_left, wide[i].sum_left);
+        for (k = 0; k < 3 * wide[i].n; k++) check(get(s.of[ROWS].at + 4 * k) == wide[i].rows[k], wide[i].name, "row");
+        leave(&s);
+    }
+}
+
+/* A record of two parts and its total in three groups, as P5 has it: the total is owed too early at first, which leaves all as it
+   was, then with a skip of 43, and paid in the next group. An early one under a number that was accepted is a repeat. */
+static void owed_and_paid(void)
+{
+    static const struct {
+        uint32_t size, start, early, last, total, empty, sum, sum_owed;
+        const char *rows, *rows_paid;
+    } records[] = {
+        { 64, 0x42000018, 0x60000014, 0x60000015, 0x0100002D, 0x80000040, 24, 45,
+          "00*3 05 00*4 00*3 15 00*3 07 00*3 15 00*3 2B", "00*3 01 00*4 00*3 2D 00*3 07 00*4 00*3 40" },
+        { 126632, 0x4201EE80, 0x6001EE7C, 0x6001EE7D, 0x0103DCFD, 0x8001EEA8, 126592, 253181,
+          "00*3 05 00*4 00 01 EE 7D 00*3 07 00 01 EE 7D 00*3 2B", "00*3 01 00*4 00 03 DC FD 00*3 07 00*4 00 01 EE A8" },
+    };
+    size_t i;
+    for (i = 0; i < sizeof records / sizeof *records; i++) {
+        const uint32_t size = records[i].size;
+        desk s = reader(size, 7, 0, 0);
+        table(&s, LIST(records[i].start, 0x80000028));
+        reads(&s, 7, 2);
+        finished(&s, "a start that fills its group");
+        table(&s, LIST(records[i].early, 0x8000002C));
+        reads(&s, 7, 2);
+        repeated(&s, "a total owed too early under the accepted number");
+        reads(&s, 8, 2);
+        refused(&s, "a total owed too early", 23, 2);
+        reads(&s, 8, 2);
+        refused(&s, "the same group again is no repeat", 23, 2);
+        reads(&s, 7, 2);
+        repeated(&s, "the accepted number after a 23");
+        reader_is(&s, "before the right group", size, 8, 1, records[i].sum);
+        table(&s, LIST(records[i].last, 0x8000002B));
+        reads(&s, 8, 2);
+        finished(&s, "the last with a skip of 43");
+        reader_is(&s, "the last with a skip of 43", size, 9, 2, records[i].sum_owed);
+        slice_is(&s, ROWS, "the last with a skip of 43", records[i].rows);
+        put(entry(&s.of[GROUP], 1), records[i].early);
+        put(entry(&s.of[GROUP], 2), 0x8000002C);
+        reads(&s, 8, 2);
+        repeated(&s, "the owing group again, owed too early now");
+        slice_is(&s, ROWS, "the rows of the group that was read", records[i].rows);
+        table(&s, LIST(records[i].total, records[i].empty));
+        reads(&s, 9, 2);
+        finished(&s, "the total is paid");
+        reader_is(&s, "the total is paid", size, 10, 0, 0);
+        slice_is(&s, ROWS, "the total is paid", records[i].rows_paid);
+        leave(&s);
+    }
+}
+
 /* all 256 flags at entry 1, with b4 clear and set in the state */
 static void first_flags(void)
 {
@@ -537,11 +710,12 @@ static void follow(void)
     uint32_t kind;
     for (i = 0; i < sizeof places / sizeof *places; i++)
         for (kind = 1; kind <= 7; kind++) {
-            uint32_t k = places[i].before ? 2 : 1, sum = places[i].phase == 1 ? 9 : places[i].phase == 2 ? 10 : 0, data;
+            uint32_t k = places[i].before ? 2 : 1, sum = places[i].phase == 1 ? 9 : places[i].phase == 2 ? 10 : 0, before, data;
             int allowed = strchr(places[i].allowed, '0' + (int)kind) != 0;
             desk s = reader(64, 7, places[i].phase, sum);
-            data = places[i].before && places[i].before != 0x07000000 && places[i].before != 0x0100000A ? 1 : 0;
-            table(&s, 4, (uint32_t[4]){ places[i].before, 0, 0, 0 });
+            before = places[i].before == 0x60000001 && kind == 7 ? 0x60000015 : places[i].before; /* a skip of 63 would be 23 */
+            data = before >> 30 & 1 ? before & 0xFFFFFF : 0;
+            table(&s, 4, (uint32_t[4]){ before, 0, 0, 0 });
             put(entry(&s.of[GROUP], k), one[kind] + (kind == 7 ? 64 - data : 0));
             /* a skip stands last; any other kind is followed by what breaks rule 8 at the next place */
             reads(&s, 7, kind == 7 ? k : k + 1);
@@ -600,6 +774,10 @@ int main(void)
     repeat_in_a_record();
     first_instance();
     repeat_numbers();
+    owed_by_two_entries();
+    owed_from_any_state();
+    nothing_owed();
+    owed_and_paid();
     first_flags();
     flags();
     follow();

@@ -149,6 +149,25 @@ static void read_entry_refusals(void)
     }
 }
 
+/* 13, and behind it 23: every last that goes into 64 bytes beside a skip, and every count told by that skip, from 0 to 65 */
+static void read_owed_early(void)
+{
+    uint32_t last, told;
+    for (last = 1; last <= 24; last++)
+        for (told = 0; told <= 65; told++) {
+            desk s = reader(64, 1, 1, 9);
+            table(&s, LIST(0x60000000 + last, 0x80000000 + told));
+            reads(&s, 1, 2);
+            if (told != 64 - last) refused(&s, "read 13 behind a last", 13, 2);
+            else if (told >= 44) refused(&s, "read 23", 23, 2);
+            else {
+                finished(&s, "skip 40 to 43 behind a last");
+                reader_is(&s, "skip 40 to 43 behind a last", 64, 2, 2, 9 + last);
+            }
+            leave(&s);
+        }
+}
+
 /* the scan stops at the first entry that breaks a rule, whatever the numbers of later ones */
 static void read_first_entry(void)
 {
@@ -162,6 +181,14 @@ static void read_first_entry(void)
     table(&s, LIST(0x6B000015, 0x07000000, 0x80000000));
     reads(&s, 1, 3);
     refused(&s, "12 at 1 before 9 at 2", 12, 1);
+    leave(&s);
+    s = reader(64, 1, 1, 9);
+    table(&s, LIST(0x60000019, 0x8000002C));
+    reads(&s, 1, 2);
+    refused(&s, "12 at 1 before 13 and 23 at 2", 12, 1);
+    table(&s, LIST(0x60000000, 0x80000040));
+    reads(&s, 1, 2);
+    refused(&s, "19 at 1 before 23 at 2", 19, 1);
     leave(&s);
 }
 
@@ -296,6 +323,7 @@ int main(void)
     repeat_order();
     read_refusals();
     read_entry_refusals();
+    read_owed_early();
     read_first_entry();
     record_order();
     record_refusals();

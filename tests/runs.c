@@ -1,7 +1,7 @@
 /* Whole runs at random: records, separators and ends written by the library and the model side by side, every call
-   compared; then each run read by both, with repeats among its groups, and what the rows give compared with what was
-   written, after each group and at the end. Half the runs are read from the model's groups. COUNT is how many runs:
-   runs [COUNT]. */
+   compared; then each run read by both, with repeats among its groups and totals put off too early, and what the rows give
+   compared with what was written, after each group and at the end. Half the runs are read from the model's groups. COUNT is
+   how many runs: runs [COUNT]. */
 
 #include "groups.h"
 #include "pair.h"
@@ -136,6 +136,30 @@ static void hands_in_again(desk *d, const closed_group *g)
     if (memcmp(state, d->of[STATE].at, DDS_READER_LEN)) failed("a repeat leaves the state", d->refusal, g->number);
 }
 
+static long owed, put_off; /* groups that owe a total, and groups that were made to owe it too early */
+
+/* request 2026-06: the writer owes a total only where it had no room */
+static void owes_for_want_of_room(const closed_group *g, uint32_t size)
+{
+    const uint8_t *last = g->image + size - 36, *skip = last - 4;
+    if ((*last & 0xF7) != DDS_FLAG_LAST || (*skip & 0xF7) != DDS_FLAG_SKIP) return;
+    if (skip[1] || skip[2] || skip[3] < 40 || skip[3] > 43) failed("a total owed with room", get(skip), g->number);
+    owed++;
+}
+
+/* a group with a last and its total, as a maker that puts the total off would write it: a skip in its place, which is 23 at 2 */
+static void puts_off_total(desk *d, const closed_group *g)
+{
+    uint8_t *last = entry(&d->of[GROUP], 1), *total = last - 4;
+    uint32_t was = get(total);
+    if ((*last & 0xF7) != DDS_FLAG_LAST || (*total & 0xF7) != DDS_FLAG_TOTAL) return;
+    put(total, 0x80000000 | (was & 0x08000000) | ((uint32_t)d->of[GROUP].len - (get(last) & 0xFFFFFF)));
+    if (both(d, READ, g->number, 2, 0) != 23 || get(d->of[ANSWER].at + DDS_ANSWER_PLACE) != 2)
+        failed("a total owed too early", d->refusal, g->number);
+    put(total, was);
+    put_off++;
+}
+
 /* reads the run and compares each item as it is finished; an open record's bytes so far as well */
 static void reads_back(desk *d, uint32_t size, uint32_t first)
 {
@@ -149,6 +173,8 @@ static void reads_back(desk *d, uint32_t size, uint32_t first)
         memcpy(d->of[GROUP].at, groups[g].image, size);
         if (g + 1 < group_count && both(d, READ, groups[g + 1].number, groups[g].entries, 0) != 5) failed("a later number", g, 0);
         if (b4) drops_b4(d, &groups[g]);
+        owes_for_want_of_room(&groups[g], size);
+        puts_off_total(d, &groups[g]);
         if (g && one_in(4)) { /* after what was refused */
             hands_in_again(d, &groups[g - 1]);
             memcpy(d->of[GROUP].at, groups[g].image, size);
@@ -211,6 +237,10 @@ int main(int argc, char **argv)
     leave(&r);
     free(written.pool);
     free(groups);
+    if (count >= 200 && (owed < count / 4 || put_off < count)) {
+        fprintf(stderr, "  %ld totals owed and %ld put off are too few\n", owed, put_off);
+        failures++;
+    }
     printf("runs: %ld runs, %ld calls compared, %ld differ\n", count, compared, failures);
     return failures != 0;
 }
