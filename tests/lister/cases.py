@@ -186,15 +186,27 @@ case('total-owed-and-paid', run(OPEN, [last(21), skip(43)], [total(45), skip(64)
     skip 0 64
     end free 0''')
 
-case('total-owed-then-more', run(OPEN, [last(1), skip(63)], [total(25), entire(2), start(3), skip(59)]), '''
+case('total-owed-skip-40-and-paid', run(OPEN, [last(24), skip(40)], [total(48), skip(64)]), '''
     group 1 entries 2
     start 0 24
     skip 24 40
     group 2 entries 2
-    last 0 1
-    skip 1 63
+    last 0 24
+    skip 24 40
+    group 3 entries 2
+    total 0 48
+    skip 0 64
+    end free 0''')
+
+case('total-owed-then-more', run(OPEN, [last(21), skip(43)], [total(45), entire(2), start(3), skip(59)]), '''
+    group 1 entries 2
+    start 0 24
+    skip 24 40
+    group 2 entries 2
+    last 0 21
+    skip 21 43
     group 3 entries 4
-    total 0 25
+    total 0 45
     entire 0 2
     start 2 3
     skip 5 59
@@ -208,6 +220,62 @@ case('owed-at-the-end', run(OPEN, [last(21), skip(43)]), '''
     last 0 21
     skip 21 43
     end owed 45''')
+
+for part, count, parts in [(22, 42, 46), (23, 41, 47), (24, 40, 48)]:
+    case(f'owed-at-the-end-skip-{count}', run(OPEN, [last(part), skip(count)]), f'''
+    group 1 entries 2
+    start 0 24
+    skip 24 40
+    group 2 entries 2
+    last 0 {part}
+    skip {part} {count}
+    end owed {parts}''')
+
+case('owed-at-the-end-with-b4', run(OPEN, [warned(last(21)), warned(skip(43))]), '''
+    group 1 entries 2
+    start 0 24
+    skip 24 40
+    group 2 entries 2
+    last 0 21
+    skip 21 43
+    end owed 45''')
+
+case('owed-at-the-end-size-65', run([start(25), skip(40)], [last(22), skip(43)], size=65), '''
+    group 1 entries 2
+    start 0 25
+    skip 25 40
+    group 2 entries 2
+    last 0 22
+    skip 22 43
+    end owed 47''')
+
+case('owed-at-the-end-size-4096', run([start(4056), skip(40)], [last(4053), skip(43)], size=4096), '''
+    group 1 entries 2
+    start 0 4056
+    skip 4056 40
+    group 2 entries 2
+    last 0 4053
+    skip 4053 43
+    end owed 8109''')
+
+case('last-of-20-with-total', run(OPEN, [last(20), total(44), skip(44)]), '''
+    group 1 entries 2
+    start 0 24
+    skip 24 40
+    group 2 entries 3
+    last 0 20
+    total 20 44
+    skip 20 44
+    end free 0''')
+
+case('skip-44-after-a-start-and-a-middle', run([start(20), skip(44)], [middle(20), skip(44)]), '''
+    group 1 entries 2
+    start 0 20
+    skip 20 44
+    group 2 entries 2
+    middle 0 20
+    skip 20 44
+    end inside 40''')
 
 case('inside-at-the-end', run(A, OPEN), '''
     group 1 entries 3
@@ -447,6 +515,31 @@ case('repeat-with-a-total-owed', head([(1, 2), (2, 2), (2, 2), (3, 2)]) + image(
     skip 0 64
     end free 0''')
 
+case('repeat-owed-early', head([(1, 2), (2, 2), (2, 2), (3, 2)]) + image(OPEN) + image([last(21), skip(43)])
+     + image([last(20), skip(44)]) + image([total(45), skip(64)]), '''
+    group 1 entries 2
+    start 0 24
+    skip 24 40
+    group 2 entries 2
+    last 0 21
+    skip 21 43
+    repeat 2
+    group 3 entries 2
+    total 0 45
+    skip 0 64
+    end free 0''')
+
+case('repeat-owed-early-inside', head([(1, 2), (1, 2), (2, 3)]) + image(OPEN) + image([last(20), skip(44)]) + image(CLOSE), '''
+    group 1 entries 2
+    start 0 24
+    skip 24 40
+    repeat 1
+    group 2 entries 3
+    last 0 1
+    total 1 25
+    skip 1 63
+    end free 0''')
+
 case('repeat-then-inside-at-the-end', head([(1, 2), (1, 2)]) + image(OPEN) * 2, '''
     group 1 entries 2
     start 0 24
@@ -655,13 +748,13 @@ case('refused-10-owed-lone-skip', run(OPEN, [last(21), skip(43)], [skip(64)]), '
     skip 21 43
     refused 10 at 1''')
 
-case('refused-10-owed-entire', run(OPEN, [last(1), skip(63)], [entire(1), skip(63)]), '''
+case('refused-10-owed-entire', run(OPEN, [last(21), skip(43)], [entire(1), skip(63)]), '''
     group 1 entries 2
     start 0 24
     skip 24 40
     group 2 entries 2
-    last 0 1
-    skip 1 63
+    last 0 21
+    skip 21 43
     refused 10 at 1''')
 
 case('refused-10-total-twice', run(OPEN, [last(1), total(25), total(25), skip(63)]), '''
@@ -783,6 +876,77 @@ case('refused-13-in-the-last-group', run(A, [entire(20), skip(43)]), '''
     separator 20 0
     skip 20 44
     refused 13 at 2''')
+
+
+# ---- Refusal 23: total owed too early. A last is always entry 1 and a skip always the last entry, so it is told at 2. ------
+
+for name, table in [
+    ('skip-44', [last(20), skip(44)]), ('skip-45', [last(19), skip(45)]), ('last-of-one', [last(1), skip(63)]),
+    ('with-b4', [warned(last(20)), warned(skip(44))]), ('b4-on-the-skip', [last(20), warned(skip(44))])]:
+    case('refused-23-' + name, run(OPEN, table), '''
+    group 1 entries 2
+    start 0 24
+    skip 24 40
+    refused 23 at 2''')
+
+case('refused-23-though-paid', run(OPEN, [last(20), skip(44)], [total(44), skip(64)]), '''
+    group 1 entries 2
+    start 0 24
+    skip 24 40
+    refused 23 at 2''')
+
+case('refused-23-after-a-middle', run(OPEN, [middle(24), skip(40)], [last(20), skip(44)]), '''
+    group 1 entries 2
+    start 0 24
+    skip 24 40
+    group 2 entries 2
+    middle 0 24
+    skip 24 40
+    refused 23 at 2''')
+
+case('refused-23-second-record', run(OPEN, [last(21), skip(43)], [total(45), start(20), skip(44)], [last(20), skip(44)]), '''
+    group 1 entries 2
+    start 0 24
+    skip 24 40
+    group 2 entries 2
+    last 0 21
+    skip 21 43
+    group 3 entries 3
+    total 0 45
+    start 0 20
+    skip 20 44
+    refused 23 at 2''')
+
+case('refused-23-after-a-repeat', head([(1, 2), (1, 2), (2, 2)]) + image(OPEN) * 2 + image([last(20), skip(44)]), '''
+    group 1 entries 2
+    start 0 24
+    skip 24 40
+    repeat 1
+    refused 23 at 2''')
+
+case('refused-23-size-65', run([start(25), skip(40)], [last(21), skip(44)], size=65), '''
+    group 1 entries 2
+    start 0 25
+    skip 25 40
+    refused 23 at 2''')
+
+case('refused-23-size-4096', run([start(4056), skip(40)], [last(4052), skip(44)], size=4096), '''
+    group 1 entries 2
+    start 0 4056
+    skip 4056 40
+    refused 23 at 2''')
+
+# What comes before 23: rules of entry 1, and at entry 2 those of 8, 9, 10 and 13. 13 tells a wrong count of 44 or more too.
+for name, table, refusal in [
+    ('8-not-23', [last(20), entry(0x81, 44)], '8 at 2'), ('9-not-23', [warned(last(20)), skip(44)], '9 at 2'),
+    ('10-not-23', [last(20), skip(44), skip(44)], '10 at 2'), ('12-not-23', [last(25), skip(44)], '12 at 1'),
+    ('13-not-23', [last(20), skip(45)], '13 at 2'), ('13-of-43', [last(20), skip(43)], '13 at 2'),
+    ('13-of-44', [last(21), skip(44)], '13 at 2'), ('19-not-23', [last(0), skip(64)], '19 at 1')]:
+    case('refused-' + name, run(OPEN, table), f'''
+    group 1 entries 2
+    start 0 24
+    skip 24 40
+    refused {refusal}''')
 
 
 # ---- The first entry that breaks a rule, and nothing after it ---------------------------------------------------------

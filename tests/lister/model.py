@@ -81,6 +81,11 @@ def skip_kept(kind, offset, count, size):
     return kind != 'skip' or count == size - offset
 
 
+def owed_kept(stand, kind, count):
+    """23: no "group of two entries, last then skip, whose skip count is 44 or more". A last is always entry 1."""
+    return not (stand == 'after last' and kind == 'skip' and count >= 44)
+
+
 def stand_after(stand, kind):
     if kind in ('total', 'separator', 'entire'):
         return 'free'
@@ -153,6 +158,8 @@ class Reader:
                 raise Refusal(12, k)
             if not skip_kept(kind, offset, count, self.size):
                 raise Refusal(13, k)
+            if not owed_kept(stand, kind, count):
+                raise Refusal(23, k)
             rows.append((kind, offset, count))
             stand, b4, total = stand_after(stand, kind), bool(flag & B4), sum_after(total, kind, count)
             offset += count if kind in PARTS else 0
