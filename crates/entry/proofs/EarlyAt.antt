@@ -9,11 +9,11 @@ use Rattle.group.specs.declared.Kind.{Kind}
 use Rattle.group.specs.declared.Kind.the-variants.{Total, Separator, Middle, Start, Last, Entire, Skip}
 use Rattle.group.specs.declared.Meaning.{Meaning}
 use Rattle.group.specs.declared.Meaning.the-variants.{Known, Unknown}
-use Rattle.group.specs.Sizes.{mostOwing}
 use Rattle.entry.specs.declared.Cursor.{Cursor}
 use Rattle.entry.specs.declared.Stand.{Stand}
 use Rattle.entry.specs.declared.Stand.the-variants.{Free, AfterPart, Inside, AfterLast, Owed}
-use Rattle.entry.specs.Rules.{mayFollow, b4Kept, followKept, zeroPart, aboveOne, tooLong, differs, orElse, roomKept, skipKept, owedKept, entryFault}
+use Rattle.counts.specs.Counts.{zeroPart, aboveOne, tooLong, differs}
+use Rattle.entry.specs.Rules.{mayFollow, b4Kept, followKept, orElse, roomKept, skipKept, owedKept, entryFault}
 
 -- What 23 at one entry tells.
 pub record EarlyAt (last : Bool) (stand : Stand) (m : Meaning) (count : ℕ) : Type 0 where

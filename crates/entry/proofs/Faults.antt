@@ -17,9 +17,10 @@ use Rattle.group.proofs.FlagLaws.{meant-or}
 use Rattle.numbers.proofs.Tests.{passed}
 use Rattle.entry.specs.declared.Cursor.{Cursor}
 use Rattle.entry.specs.declared.Stand.{Stand}
-use Rattle.entry.specs.Rules.{isSkip, b4Kept, followKept, countFault, roomKept, skipKept, mayOwe, owedKept, dataFault, entryFault, orElse, sumAfter, reachedAfter}
+use Rattle.counts.specs.Counts.{countFault}
+use Rattle.entry.specs.Rules.{isSkip, b4Kept, followKept, roomKept, skipKept, mayOwe, owedKept, dataFault, entryFault, orElse, sumAfter, reachedAfter}
 use Rattle.entry.specs.Scan.{after}
-use Rattle.entry.proofs.Counts.{CountKept, count-kept, no-count-fault}
+use Rattle.counts.proofs.Counts.{CountKept, count-kept, no-count-fault}
 use Rattle.entry.specs.Bounds.{Bounded}
 
 -- Whatever the `||` of a list's end adds, it is nothing.
@@ -46,14 +47,6 @@ module _ (size limit : ℕ) (last : Bool) (c : Cursor) (k : Kind) (w : Bool) (co
       → dataFault size limit (c .stand) (c .reached) k count ≡ entryFault size limit last c (Known k w) count
   unfolding entryFault
   counted h i f = rw (h, i, f)
-
--- A total's count, against the sum of its parts.
-module _ (sum count : ℕ) where
-  pub total-kept : count ≡ sum → 0 ≡ countFault Total sum count
-  total-kept e = rw (eq-eqb count sum e)
-
-  pub total-differs : (count ≡ sum → ⊥) → 22 ≡ countFault Total sum count
-  total-differs e = rw (ne-eqb count sum e)
 
 -- A skip's count, against L less the data before it, and against what may owe a total.
 module _ (size limit : ℕ) (stand : Stand) (reached : ℕ) (k : Kind) (count : ℕ) (h : roomKept k reached count limit ≡ true) (i : isSkip k ≡ true) where

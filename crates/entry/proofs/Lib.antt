@@ -1,5 +1,4 @@
 -- The laws that the proofs of this crate share, and those that the crates above cite.
-pub mod Counts
 pub mod Faults
 pub mod Scans
 pub mod Suits

@@ -22,7 +22,8 @@ use Rattle.entry.specs.declared.ScanEnd.{ScanEnd}
 use Rattle.entry.specs.declared.ScanEnd.the-variants.{Reached, Refused}
 use Rattle.entry.specs.declared.Stand.{Stand}
 use Rattle.entry.specs.declared.Stand.the-variants.{Free, AfterPart, Inside, AfterLast, Owed}
-use Rattle.entry.specs.Rules.{mayFollow, isSkip, phaseAfter, b4Kept, followKept, zeroPart, aboveOne, tooLong, differs, orElse, roomKept, skipKept, mayOwe, owedKept, entryFault}
+use Rattle.counts.specs.Counts.{zeroPart, aboveOne, tooLong, differs}
+use Rattle.entry.specs.Rules.{mayFollow, isSkip, phaseAfter, b4Kept, followKept, orElse, roomKept, skipKept, mayOwe, owedKept, entryFault}
 use Rattle.entry.specs.Scan.{after, isLast, onward, scan}
 use Rattle.entry.specs.Reasons.{held, reasons, Suits, entryFaultBefore, scanBefore, asEleven, endAsEleven, Became, told-anew, owed-early}
 

@@ -18,7 +18,8 @@ use Rattle.group.proofs.FlagLaws.{each, flag-of-meaning}
 use Rattle.entry.specs.declared.Cursor.{Cursor}
 use Rattle.entry.specs.declared.ScanEnd.{ScanEnd}
 use Rattle.entry.specs.declared.ScanEnd.the-variants.{Reached, Refused}
-use Rattle.entry.specs.Rules.{holdsData, entryFault}
+use Rattle.counts.specs.Counts.{holdsData}
+use Rattle.entry.specs.Rules.{entryFault}
 use Rattle.entry.specs.Scan.{after, isLast, onward, scan, reachedBy}
 use Rattle.entry.specs.Bounds.{Bounded, Within}
 use Rattle.entry.proofs.Faults.{has-meaning, stays}

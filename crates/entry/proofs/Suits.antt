@@ -20,7 +20,7 @@ use Rattle.entry.specs.declared.ScanEnd.the-variants.{Reached}
 use Rattle.entry.specs.Rules.{mayFollow, isSkip, standAfter, sumAfter, entryFault}
 use Rattle.entry.specs.Scan.{after, isLast, scan}
 use Rattle.entry.specs.Reasons.{Suits}
-use Rattle.entry.proofs.Counts.{CountKept}
+use Rattle.counts.proofs.Counts.{CountKept}
 use Rattle.entry.proofs.Faults.{kept}
 use Rattle.entry.proofs.Scans.{went-on}
 

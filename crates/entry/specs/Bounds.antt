@@ -1,11 +1,10 @@
--- Serves contracts and proofs only: the table that the code is lent, how a group's table is cut, how large numbers are where the
--- code adds them, and what a part's count alone breaks.
+-- Serves contracts and proofs only: the table that the code is lent, how a group's table is cut, and how large numbers are where the
+-- code adds them.
 -- Assumes nothing.
 use Prim.Native.Nat.{ℕ, _+_, _*_, _≤_}
 use mathlib.Core.Path.{_≡_}
 use mathlib.Core.List.{List, [], _∷_, map}
-use mathlib.Core.Bool.{Bool, false, cond, not}
-use lib.Dec.{leb}
+use mathlib.Core.Bool.{Bool, false}
 use lib.ListN.{length}
 use Rattle.group.specs.declared.Entry.{Entry}
 use Rattle.group.specs.Sizes.{standardSize, informationLength, entryLength, longestRecord}
@@ -49,7 +48,3 @@ unfoldable pub Within : ℕ → ℕ → List Entry → Type 0
 Within limit reached [] = Unit {0}
 Within limit reached (e ∷ es) =
     ((reached ≤ limit) × Meant (e .flag)) × Within limit (reachedBy (meaningOf (e .flag)) reached (e .count)) es
-
--- 19 and 21 of a part with this count, up to which the parts add to so much, where `most` is allowed.
-abbrev pub partFault : (count parts most : ℕ) → ℕ
-partFault count parts most = cond (not (leb 1 count)) 19 (cond (not (leb parts most)) 21 0)

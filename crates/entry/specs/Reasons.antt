@@ -16,7 +16,8 @@ use Rattle.entry.specs.declared.Cursor.{Cursor}
 use Rattle.entry.specs.declared.Stand.{Stand}
 use Rattle.entry.specs.declared.ScanEnd.{ScanEnd}
 use Rattle.entry.specs.declared.ScanEnd.the-variants.{Reached, Refused}
-use Rattle.entry.specs.Rules.{phaseAfter, b4Kept, followKept, zeroPart, aboveOne, tooLong, differs, roomKept, skipKept, orElse}
+use Rattle.counts.specs.Counts.{zeroPart, aboveOne, tooLong, differs}
+use Rattle.entry.specs.Rules.{phaseAfter, b4Kept, followKept, roomKept, skipKept, orElse}
 use Rattle.entry.specs.Scan.{after, isLast, onward}
 
 -- How many of these hold.

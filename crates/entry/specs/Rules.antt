@@ -1,9 +1,9 @@
--- Document 01, "Which entry may follow" and "Numbers the firmware sees": the rules of one entry, 8 to 10, then 19 to 22 of change
--- request 2026-02 in the place of 11, then 12 and 13, then 23 of change request 2026-06.
+-- Document 01, "Which entry may follow" and "Numbers the firmware sees": the rules of one entry, 8 to 10, then 19 to 22 of its count,
+-- then 12 and 13, then 23 of change request 2026-06.
 -- Assumes nothing.
 use Prim.Native.Nat.{ℕ, _+_, _-_}
 use mathlib.Core.List.{List, [], _∷_}
-use mathlib.Core.Bool.{Bool, true, false, cond, not, _&&_, _||_}
+use mathlib.Core.Bool.{Bool, true, cond, not, _&&_, _||_}
 use lib.Dec.{eqb, leb}
 use Rattle.group.specs.declared.Kind.{Kind}
 use Rattle.group.specs.declared.Kind.the-variants.{Total, Separator, Middle, Start, Last, Entire, Skip}
@@ -11,8 +11,8 @@ use Rattle.group.specs.declared.Phase.{Phase}
 use Rattle.group.specs.declared.Phase.the-variants as phase
 use Rattle.group.specs.declared.Meaning.{Meaning}
 use Rattle.group.specs.declared.Meaning.the-variants.{Known, Unknown}
-use Rattle.group.specs.Sizes.{longestRecord, mostOwing}
-use Rattle.group.specs.Flags.{kindNumber}
+use Rattle.group.specs.Sizes.{mostOwing}
+use Rattle.counts.specs.Counts.{isAmong, holdsData, countFault}
 use Rattle.entry.specs.declared.Stand.{Stand}
 use Rattle.entry.specs.declared.Stand.the-variants.{Free, AfterPart, Inside, AfterLast, Owed}
 use Rattle.entry.specs.declared.Cursor.{Cursor}
@@ -25,20 +25,12 @@ allowedAt Inside = Middle ∷ Last ∷ []
 allowedAt AfterLast = Total ∷ Skip ∷ []
 allowedAt Owed = Total ∷ []
 
-abbrev pub isAmong : Kind → List Kind → Bool
-isAmong k [] = false
-isAmong k (j ∷ js) = eqb (kindNumber k) (kindNumber j) || isAmong k js
-
 unfoldable pub mayFollow : Stand → Kind → Bool
 mayFollow stand k = isAmong k (allowedAt stand)
 
 -- "Skip is always the last entry and stands nowhere else."
 abbrev pub isSkip : Kind → Bool
 isSkip k = isAmong k (Skip ∷ [])
-
--- The kinds whose count is bytes of user data of this group: kinds 3 to 6.
-abbrev pub holdsData : Kind → Bool
-holdsData k = isAmong k (Middle ∷ Start ∷ Last ∷ Entire ∷ [])
 
 -- How a group's beginning stands, by what the group before it left.
 abbrev pub standAt : Phase → Stand
@@ -95,37 +87,6 @@ b4Kept before warned = not before || warned
 -- 10: the kind may follow, and a skip stands at entry n and nowhere else.
 abbrev pub followKept : Stand → Kind → Bool → Bool
 followKept stand k last = mayFollow stand k && cond last (isSkip k) (not (isSkip k))
-
--- 19, a zero part: "Counts of kinds 3 to 6 are at least 1."
-abbrev pub zeroPart : Kind → ℕ → Bool
-zeroPart k count = holdsData k && not (leb 1 count)
-
--- 20, a separator above 1: "0 for Separator 1, 1 for Separator 2".
-abbrev pub aboveOne : Kind → ℕ → Bool
-aboveOne k count = isAmong k (Separator ∷ []) && not (leb count 1)
-
--- 21, a record too long: "The parts of a record after a start or middle add to at most 16,777,214; after its last, to at most
--- 16,777,215." "A record is 1 to 16,777,215 bytes."
-abbrev pub tooLong : Kind → (sum count : ℕ) → Bool
-tooLong Total sum count = false
-tooLong Separator sum count = false
-tooLong Middle sum count = not (leb (sum + count) (longestRecord - 1))
-tooLong Start sum count = not (leb count (longestRecord - 1))
-tooLong Last sum count = not (leb (sum + count) longestRecord)
-tooLong Entire sum count = not (leb count longestRecord)
-tooLong Skip sum count = false
-
--- 22, a total that differs: "A total equals the sum of its parts."
-abbrev pub differs : Kind → (sum count : ℕ) → Bool
-differs k sum count = isAmong k (Total ∷ []) && not (eqb count sum)
-
--- "19 zero part, 20 separator above 1, 21 record too long, 22 total differs": which of them, 0 if the count keeps its rule.
-abbrev pub countFault : Kind → (sum count : ℕ) → ℕ
-countFault k sum count =
-    cond (zeroPart k count) 19
-    (cond (aboveOne k count) 20
-    (cond (tooLong k sum count) 21
-    (cond (differs k sum count) 22 0)))
 
 -- 12: the data that this entry reaches stays within the limit, L − 32 − 4n.
 abbrev pub roomKept : Kind → (reached count limit : ℕ) → Bool

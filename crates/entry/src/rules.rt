@@ -5,9 +5,10 @@ ghost use Rattle.group.specs.Sizes.{standardSize, longestRecord};
 ghost use Rattle.group.specs.declared.Meaning.the-variants.{Known};
 ghost use Rattle.group.specs.Flags.{meaningOf};
 ghost use Rattle.group.specs.Contracts.{Meant};
-ghost use Rattle.entry.specs.Rules.{mayFollow, isSkip, holdsData, standAfter, sumAfter, reachedAfter, b4Kept, countFault, followKept, mayOwe, dataFault, entryFault};
+ghost use Rattle.counts.specs.Counts.{holdsData};
+ghost use Rattle.entry.specs.Rules.{mayFollow, isSkip, standAfter, sumAfter, reachedAfter, b4Kept, followKept, mayOwe, dataFault, entryFault};
 ghost use Rattle.entry.specs.Scan.{after, reachedBy};
-ghost use Rattle.entry.specs.Bounds.{standNumber, followTable, Bounded, partFault};
+ghost use Rattle.entry.specs.Bounds.{standNumber, followTable, Bounded};
 use crate::Cursor;
 use crate::Stand;
 use group::Group;
@@ -69,45 +70,6 @@ fn follow_kept(follows: &[[bool; 8]; 5], stand: Stand, kind: Kind, last: bool) -
         return is_skip(kind);
     }
     !is_skip(kind)
-}
-
-// 19 and 21 of a part, up to which the parts add to so much.
-fn part_fault(count: u32, parts: u32, most: u32) -> u32
-    ensures { λ r. ⌜ r ≡ partFault count parts most ⌝ }
-{
-    if count < 1 {
-        return 19;
-    }
-    if most < parts {
-        return 21;
-    }
-    0
-}
-
-// 19 to 22, at each kind.
-fn count_fault(kind: Kind, sum: u32, count: u32) -> u32
-    requires { ⌜ (sum ≤ longestRecord) × (count ≤ longestRecord) ⌝ }
-    ensures { λ r. ⌜ r ≡ countFault kind sum count ⌝ }
-{
-    match kind {
-        Kind::Total => {
-            if count == sum {
-                return 0;
-            }
-            22
-        }
-        Kind::Separator => {
-            if count <= 1 {
-                return 0;
-            }
-            20
-        }
-        Kind::Middle => part_fault(count, sum + count, Group::LONGEST_RECORD - 1),
-        Kind::Start => part_fault(count, count, Group::LONGEST_RECORD - 1),
-        Kind::Last => part_fault(count, sum + count, Group::LONGEST_RECORD),
-        Kind::Entire => part_fault(count, count, Group::LONGEST_RECORD),
-        Kind::Skip => 0,
-    }
 }
 
 fn holds_data(kind: Kind) -> bool
@@ -227,7 +189,7 @@ fn known_fault(
     if !follow_kept(follows, stand, kind, last) {
         return 10;
     }
-    let fault = count_fault(kind, here.sum, count);
+    let fault = counts::count_fault(kind, here.sum, count);
     if fault != 0 {
         return fault;
     }

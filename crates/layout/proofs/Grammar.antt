@@ -13,7 +13,7 @@ use Rattle.group.specs.Sizes.{longestRecord, mostOwing}
 use Rattle.entry.specs.declared.Stand.{Stand}
 use Rattle.entry.specs.declared.Stand.the-variants.{Free, AfterPart, Inside, AfterLast, Owed}
 use Rattle.entry.specs.Rules.{mayFollow, mayOwe, standAfter, sumAfter, reachedAfter, standAt, phaseAfter}
-use Rattle.entry.proofs.Counts.{CountKept}
+use Rattle.counts.proofs.Counts.{CountKept}
 use Rattle.layout.specs.Items.{Laid, Tail, Piece, Token, tokens, tailTokens, middles, lateBy, joined, wholeOf, Each, Part, MayOwe, LateKept, SoundLaid, SoundTail}
 use Rattle.layout.specs.Items.Each.{each-none, each-more}
 use Rattle.layout.specs.Items.SoundLaid.{sound-entire, sound-spanned, sound-separator, sound-early}

@@ -13,7 +13,8 @@ use Rattle.group.specs.declared.Phase.the-variants as phase
 use Rattle.group.specs.Flags.{kindNumber}
 use Rattle.entry.specs.declared.Stand.{Stand}
 use Rattle.entry.specs.declared.Stand.the-variants.{Free, AfterPart, Inside, AfterLast, Owed}
-use Rattle.entry.specs.Rules.{isAmong, mayFollow, standAfter, standAt, phaseAfter}
+use Rattle.counts.specs.Counts.{isAmong}
+use Rattle.entry.specs.Rules.{mayFollow, standAfter, standAt, phaseAfter}
 use Rattle.laying.specs.Laying.{Desk}
 use Rattle.layout.specs.Items.{Piece, Token, grouped}
 use Rattle.layout.specs.Items.Token.{piece, groupEnd}

@@ -19,7 +19,8 @@ use Rattle.group.proofs.EntryLaws.{length-entries}
 use Rattle.entry.specs.declared.Cursor.{Cursor}
 use Rattle.entry.specs.declared.ScanEnd.{ScanEnd}
 use Rattle.entry.specs.declared.ScanEnd.the-variants as scanned
-use Rattle.entry.specs.Rules.{b4Kept, followKept, zeroPart, aboveOne, tooLong, differs, orElse, roomKept, skipKept, owedKept, entryFault}
+use Rattle.counts.specs.Counts.{zeroPart, aboveOne, tooLong, differs}
+use Rattle.entry.specs.Rules.{b4Kept, followKept, orElse, roomKept, skipKept, owedKept, entryFault}
 use Rattle.entry.specs.Scan.{after, isLast, scan}
 use Rattle.reader.specs.declared.Reader.{Reader}
 use Rattle.reader.specs.declared.ReadAnswer.the-variants as answer

@@ -24,7 +24,7 @@ use Rattle.entry.specs.Scan.{after, isLast, scan, reachedBy}
 use Rattle.rows.specs.Rows.{rowKind, rowsFrom}
 use Rattle.entry.specs.Bounds.{Bounded}
 use Rattle.reader.specs.Answer.{opening, groupScan, groupRows, readCall}
-use Rattle.entry.proofs.Counts.{CountKept}
+use Rattle.counts.proofs.Counts.{CountKept}
 use Rattle.entry.proofs.Faults.{kept, unknown-fault, stays}
 use Rattle.entry.proofs.Scans.{went-on}
 use Rattle.reader.proofs.Accepted.{accepted, begins}

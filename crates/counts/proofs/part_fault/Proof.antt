@@ -1,6 +1,6 @@
 -- `part_fault` meets its contract. Assumes nothing.
-use Rattle.entry.proofs.rules.part_fault.Statement.{statement}
-use Rattle.entry.proofs.rules.part_fault.Tie as tie
+use Rattle.counts.proofs.part_fault.Statement.{statement}
+use Rattle.counts.proofs.part_fault.Tie as tie
 use borrow.Author.Tests.{le-leb, lt-leb}
 
 pub part-fault-spec : {M : Type 1} → statement M

@@ -1,9 +1,9 @@
 -- `count_fault` meets its contract, kind by kind. Assumes nothing.
 use borrow.Author.Needs.{needs}
 use borrow.Author.Tests.{le-leb, lt-leb}
-use Rattle.entry.proofs.Faults.{total-kept, total-differs}
-use Rattle.entry.proofs.rules.count_fault.Statement.{statement}
-use Rattle.entry.proofs.rules.count_fault.Tie as tie
+use Rattle.counts.proofs.Counts.{total-kept, total-differs}
+use Rattle.counts.proofs.count_fault.Statement.{statement}
+use Rattle.counts.proofs.count_fault.Tie as tie
 
 pub count-fault-spec : {M : Type 1} → statement M
 count-fault-spec =

@@ -4,14 +4,14 @@ use mathlib.Core.Path.{_≡_, refl}
 use mathlib.Core.Bool.{Bool, true, false, cond, not}
 use Prim.Native.Nat.{ℕ, suc, _+_, _-_, _≤_}
 use native.Mathlib.Omega.{arith}
-use borrow.Author.Tests.{eq-eqb, le-leb, eqb-true, leb-true, not-false}
+use borrow.Author.Tests.{eq-eqb, ne-eqb, le-leb, eqb-true, leb-true, not-false}
 use lib.Dec.{eqb, leb}
 use Rattle.group.specs.declared.Kind.{Kind}
 use Rattle.group.specs.declared.Kind.the-variants.{Total, Separator, Middle, Start, Last, Entire, Skip}
 use Rattle.group.specs.Sizes.{longestRecord}
 use Rattle.numbers.proofs.Tests.{passed}
-use Rattle.entry.specs.Rules.{countFault}
-use Rattle.entry.specs.Bounds.{partFault}
+use Rattle.counts.specs.Counts.{countFault}
+use Rattle.counts.specs.Parts.{partFault}
 
 -- A part of 1 byte or more, up to which the parts add to at most so much.
 abbrev pub PartKept : (count parts most : ℕ) → Type 0
@@ -57,3 +57,11 @@ no-count-fault Start sum count h = part-fits count count (longestRecord - 1) h
 no-count-fault Last sum count h = part-fits count (sum + count) longestRecord h
 no-count-fault Entire sum count h = part-fits count count longestRecord h
 no-count-fault Skip sum count h = refl
+
+-- A total's count, against the sum of its parts.
+module _ (sum count : ℕ) where
+  pub total-kept : count ≡ sum → 0 ≡ countFault Total sum count
+  total-kept e = rw (eq-eqb count sum e)
+
+  pub total-differs : (count ≡ sum → ⊥) → 22 ≡ countFault Total sum count
+  total-differs e = rw (ne-eqb count sum e)

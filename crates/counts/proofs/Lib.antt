@@ -1,0 +1,2 @@
+-- The laws that the proofs of this crate share, and those that the crates above cite.
+pub mod Counts
