@@ -1,5 +1,5 @@
 /* A feed mill's recipe library on a card of Basic Groups: written as one record across eleven groups, handed back and
-   read; then four troubles of the mill's old drives, each shown cured. The loops in write_record and read_group are
+   read; then five troubles of the mill's old drives, each shown cured. The loops in write_record and read_group are
    what a box's firmware does. Exits with 1 if anything is not as it says. */
 
 #include <stdio.h>
@@ -288,7 +288,29 @@ static void group_twice(void)
     for (g = 6; g < 11; g++) must(read_group(&r, &library.slots[g]) == DDS_ACCEPTED && !repeat(&r), "groups 7 to 11 are read");
     must(phase(&r) == DDS_PHASE_FREE && r.length == LENGTH && r.total == LENGTH, "the record is finished");
     must(memcmp(recipes, found, LENGTH) == 0, "each recipe is the one that was written");
-    printf("  Group 7 is read next, and every recipe is right.\n");
+    printf("  Group 7 is read next, and every recipe is right.\n\n");
+}
+
+static void total_put_off(void)
+{
+    uint32_t g, last = LENGTH - 10 * PART, skip = SIZE - last;
+    slot *eleven = &other.slots[10];
+    uint8_t *put_off = entry(eleven, 2); /* where the total stood */
+    other = library;
+    put_off[0] = DDS_FLAG_SKIP;
+    put_off[1] = (uint8_t)(skip >> 16);
+    put_off[2] = (uint8_t)(skip >> 8);
+    put_off[3] = (uint8_t)skip;
+    eleven->entries = 2;
+    printf("Trouble 5. Some firmware puts a total off although it has room. Older boxes hang on such a last group.\n");
+    printf("  Group 11 holds a last of %u bytes and a skip of %u. From 44 on the total has room.\n", (unsigned)last,
+           (unsigned)skip);
+    start_reader(&r, found, LENGTH);
+    for (g = 0; g < 10; g++) must(read_group(&r, &library.slots[g]) == DDS_ACCEPTED, "groups 1 to 10 are accepted");
+    refused(eleven, "A total owed too early", DDS_REFUSED_OWED_EARLY, 2);
+    must(read_group(&r, &library.slots[10]) == DDS_ACCEPTED, "the group as it was written is accepted");
+    must(phase(&r) == DDS_PHASE_FREE && r.total == LENGTH, "the record is finished");
+    printf("  The group as it was written has the total beside the last, and is accepted.\n");
 }
 
 int main(void)
@@ -299,5 +321,6 @@ int main(void)
     tables_read_alike();
     total_not_lost();
     group_twice();
+    total_put_off();
     return 0;
 }
