@@ -33,7 +33,7 @@ fn phase_after(stand: Stand) -> Phase
 }
 
 // Where a group's scan begins.
-pub(crate) fn opening(reader: Reader) -> Cursor
+pub fn opening(reader: Reader) -> Cursor
     ensures { λ r. ⌜ r ≡ opening reader ⌝ }
 {
     let phase = reader.phase;

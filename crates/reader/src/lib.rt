@@ -1,12 +1,12 @@
 // Reads Basic Groups: document 01, "Reading". A start, a read with its rows, and a read's judgement without them. None of them
 // requires anything: what may not be is refused with a number and a place.
-mod ends;
+pub mod ends;
 
 ghost use mathlib.Core.Path.{_≡_};
 ghost use Prim.Native.Nat.{_/_};
 ghost use lib.ListN.{length};
 ghost use Rattle.numbers.specs.Numbers.{inBytes};
-ghost use Rattle.reader.specs.Answer.{readerStartCall, sound, repeats, readRefusal, readCall, asNumbers, Reads};
+ghost use Rattle.reader.specs.Answer.{readerStartCall, sound, repeats, isRepeat, readRefusal, readCall, asNumbers, Reads};
 use entry::ScanEnd;
 use group::Group;
 use group::Phase;
@@ -78,8 +78,22 @@ impl Reader {
         self.accepted
     }
 
+    // Whether a group of this length with this number is a repeat. A read looks for it only where it would else be refused with 5; who is
+    // in less haste asks here.
+    pub fn is_repeat(self, length: usize, number: u32) -> bool
+        ensures { λ r. ⌜ r ≡ isRepeat self length number ⌝ }
+    {
+        if !self.is_sound() {
+            return false;
+        }
+        if length != self.size as usize {
+            return false;
+        }
+        self.repeats(number)
+    }
+
     // The number of a refusal before the scan, 0 if there is none.
-    fn refusal(self, length: usize, number: u32, entries: u32, room: usize) -> u32
+    pub fn refusal(self, length: usize, number: u32, entries: u32, room: usize) -> u32
         ensures { λ r. ⌜ r ≡ readRefusal self length number entries room ⌝ }
     {
         if !self.is_sound() {

@@ -1,0 +1,72 @@
+// Change request 2026-07: why a read refuses: the rule that is broken first, where, what was found there and what is allowed. None
+// of these functions requires anything.
+mod call;
+mod entries;
+mod kinds;
+
+ghost use mathlib.Core.Path.{_≡_};
+ghost use Rattle.explain.specs.Explanation.{noRefusal, explained};
+use entry::ScanEnd;
+use reader::Reader;
+
+// The numbers of a reason: what was found, the least and the greatest allowed, and the permitted kinds.
+pub struct Reason {
+    pub found: u64,
+    pub least: u64,
+    pub greatest: u64,
+    pub kinds: u64,
+}
+
+// An explanation: the refusal, its place, the byte offset of that entry, and why.
+pub struct Explanation {
+    pub refusal: u32,
+    pub place: u32,
+    pub offset: u32,
+    pub why: Reason,
+}
+
+impl Explanation {
+    // Of a read that is accepted, or sees a repeat.
+    fn none() -> Explanation
+        ensures { λ r. ⌜ r ≡ noRefusal ⌝ }
+    {
+        Explanation {
+            refusal: 0,
+            place: 0,
+            offset: 0,
+            why: call::no_reason(),
+        }
+    }
+
+    // Of a read that is lent `rows` bytes of rows. Nothing is written.
+    pub fn of(reader: Reader, group: &[u8], number: u32, entries: u32, rows: usize) -> Explanation
+        ensures { λ r. ⌜ r ≡ explained reader (now (group .entry)) number entries rows ⌝ }
+    {
+        if reader.is_repeat(group.len(), number) {
+            return Explanation::none();
+        }
+        let refusal = reader.refusal(group.len(), number, entries, rows / 4);
+        if refusal != 0 {
+            return Explanation {
+                refusal,
+                place: 0,
+                offset: 0,
+                why: call::call_reason(refusal, reader, group.len(), number, entries, rows),
+            };
+        }
+        let opening = reader::ends::opening(reader);
+        match scan::scan_entries(group, reader.size, entries, opening) {
+            ScanEnd::Reached(_) => Explanation::none(),
+            ScanEnd::Refused(fault, place, here) => {
+                let offset = entries::entry_offset(reader.size, place);
+                let entry = group::entries::entry_at(group, offset as usize);
+                Explanation {
+                    refusal: fault,
+                    place,
+                    offset,
+                    why: entries::entry_reason(fault, reader.size, entries, place, here, entry),
+                }
+            }
+        }
+    }
+}
