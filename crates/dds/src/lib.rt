@@ -3,6 +3,7 @@ ghost use mathlib.Core.Path.{_≡_};
 ghost use mathlib.Core.List.{[], _∷_};
 ghost use Rattle.slices.specs.Call.{left};
 ghost use Rattle.c_reader.specs.Calls.{ddsReaderStart, ddsRead};
+ghost use Rattle.c_explain.specs.Calls.{explains, ddsExplain};
 ghost use Rattle.c_writer.specs.Calls.{ddsWriterStart, ddsRecord, ddsSeparator, ddsEnd};
 ghost use Rattle.c_track.specs.Calls.{ddsSubdataMake, ddsSubdataRead};
 ghost use Rattle.c_third.specs.Calls.{ddsThirdMake, ddsThirdCheck, ddsThirdRestoreOne, ddsThirdRestoreTwo, ddsThirdMend};
@@ -34,6 +35,21 @@ pub extern "C" fn dds_read(
     ensures { λ r. ⌜ left r (now (state .exit) ∷ now (rows .exit) ∷ []) (now (answer .exit)) ≡ ddsRead (now (state .entry)) (now (group .entry)) number entries (now (rows .entry)) (now (answer .entry)) ⌝ }
 {
     c_reader::read(state, group, number, entries, rows, answer)
+}
+
+// Why a read with these arguments refuses. Nothing but the explanation is written.
+#[no_mangle]
+pub extern "C" fn dds_explain(
+    state: &[u8],
+    group: &[u8],
+    number: u32,
+    entries: u32,
+    rows: &[u8],
+    explanation: &mut [u8],
+) -> u32
+    ensures { λ r. ⌜ explains r (now (explanation .exit)) ≡ ddsExplain (now (state .entry)) (now (group .entry)) number entries (now (rows .entry)) (now (explanation .entry)) ⌝ }
+{
+    c_explain::explain(state, group, number, entries, rows, explanation)
 }
 
 // A fresh writer, into the state slice.

@@ -25,7 +25,7 @@ use Rattle.entry.specs.Rules.{mayFollow, isSkip, b4Kept, followKept, reachedAft
 use Rattle.explain.specs.Rules.{Rule, Stop, keeps, kindKeeps}
 use Rattle.explain.specs.Rules.Rule.{flagKnown, b4Stays, kindFollows, partNotEmpty, separatorValue, recordLength, totalSum, dataWithin, skipCount, totalInTime}
 use Rattle.explain.specs.Explanation.{reason, b4Found, leaves, permitted, reasonAt}
-use Rattle.explain.specs.Truth.{isPermitted, BrokenBy, CountsAllowed, AllowedBy}
+use Rattle.explain.specs.Truth.{isPermitted, BrokenBy, AllowedBy}
 
 -- Two tests that follow from each other are the same; and a number that is not between two.
 pub same-test : (a b : Bool) → (a ≡ true → b ≡ true) → (b ≡ true → a ≡ true) → a ≡ b

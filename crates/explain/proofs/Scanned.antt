@@ -4,7 +4,7 @@ use Prim.Native.Nat.{ℕ, zero, suc, _+_, _*_, _-_, _≤_}
 use native.Mathlib.Omega.{arith}
 use mathlib.Core.Path.{_≡_, refl, sym, ap, _∙_, subst}
 use mathlib.Core.List.{List, [], _∷_, _++_}
-use mathlib.Core.Bool.{Bool, true, false, cond, true≢false, false≢true}
+use mathlib.Core.Bool.{Bool, true, false, cond}
 use lib.Dec.{eqb}
 use borrow.Author.Tests.{eqb-true, eqb-false, eq-eqb, ne-eqb}
 use Rattle.group.specs.declared.Entry.{Entry}
@@ -12,15 +12,13 @@ use Rattle.group.specs.Sizes.{entryOffset}
 use Rattle.group.specs.Flags.{meaningOf}
 use Rattle.group.specs.Entries.{entryAt, entriesBelow}
 use Rattle.entry.specs.declared.Cursor.{Cursor}
-use Rattle.entry.specs.declared.ScanEnd.{ScanEnd}
 use Rattle.entry.specs.declared.ScanEnd.the-variants as scanned
 use Rattle.entry.specs.Rules.{entryFault}
 use Rattle.entry.specs.Scan.{after, isLast, scan}
-use Rattle.explain.specs.declared.Reason.{Reason}
 use Rattle.explain.specs.declared.Explanation.{Explanation}
 use Rattle.explain.specs.Rules.{Rule, Stop, inOrder, ruleNumber, keeps, firstBroken}
 use Rattle.explain.specs.Rules.Rule.{flagKnown, b4Stays, kindFollows, partNotEmpty, separatorValue, recordLength, totalSum, dataWithin, skipCount, totalInTime}
-use Rattle.explain.specs.Explanation.{explanation, entryReason, reasonAt, stop, scanExplained}
+use Rattle.explain.specs.Explanation.{explanation, entryReason, reasonAt, scanExplained}
 use Rattle.explain.specs.Truth.{Keeps, Breaks, Stops, stopAt}
 use Rattle.explain.specs.Truth.Keeps.{keeps-none, keeps-more}
 use Rattle.explain.specs.Truth.Stops.{stops-here, stops-later}

@@ -4,3 +4,4 @@ pub mod Computed
 pub mod Stores
 pub mod NumberLaws
 pub mod InBytes
+pub mod InEights

@@ -30,7 +30,12 @@ unfoldable pub inBytes : List ℕ → List ℕ
 inBytes [] = []
 inBytes (n ∷ ns) = bytesOf 4 n ++ inBytes ns
 
--- .. and the numbers that stand in bytes, four each.
+-- Change request 2026-07: "8-byte numbers, most significant byte first".
+unfoldable pub inEights : List ℕ → List ℕ
+inEights [] = []
+inEights (n ∷ ns) = bytesOf 8 n ++ inEights ns
+
+-- The numbers that stand in bytes, four each.
 unfoldable pub numbersIn : List ℕ → List ℕ
 numbersIn [] = []
 numbersIn (a ∷ []) = []

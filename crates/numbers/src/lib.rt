@@ -59,3 +59,12 @@ pub fn put_number(bytes: &mut [u8], at: usize, n: u32)
         (n % 256) as u8,
     );
 }
+
+// A number as eight bytes from index `at` on: its upper half, then its lower.
+pub fn put_eight(bytes: &mut [u8], at: usize, n: u64)
+    requires { ⌜ at + 8 ≤ length (now bytes) ⌝ }
+    ensures { λ _. ⌜ now (bytes .exit) ≡ put (now (bytes .entry)) at (bytesOf 8 n) ⌝ }
+{
+    put_number(bytes, at, (n / 4294967296) as u32);
+    put_number(bytes, at + 4, (n % 4294967296) as u32);
+}
