@@ -8,7 +8,8 @@ use borrow.Author.Tests.{eq-eqb, ne-eqb}
 use lib.ListN.{length}
 use Rattle.reader.specs.declared.Reader.{Reader}
 use Rattle.explain.specs.declared.Explanation.{Explanation}
-use Rattle.explain.specs.Explanation.{noReason, explanation, explained}
+use Rattle.reasons.specs.Reasons.{noReason}
+use Rattle.explain.specs.Explanation.{explanation, explained}
 use Rattle.states.specs.States.{readerLength, readerOf, readerMeant}
 use Rattle.c_explain.specs.Calls.{explanationLength, explains, tells, stateExplained, ddsExplain}
 

@@ -13,7 +13,8 @@ use Rattle.answer.specs.declared.Told.the-variants.{Accepted, RefusedAt}
 use Rattle.answer.specs.Answer.{numbersTold, refusalTold}
 use Rattle.reader.specs.Answer.{readCall, told}
 use Rattle.explain.specs.declared.Explanation.{Explanation}
-use Rattle.explain.specs.Explanation.{noReason, explanation, explained}
+use Rattle.reasons.specs.Reasons.{noReason}
+use Rattle.explain.specs.Explanation.{explanation, explained}
 use Rattle.explain.specs.Truth.{SameTold}
 use Rattle.explain.proofs.Theorems.{explained-true, explained-same}
 use Rattle.slices.specs.Call.{Left, left, answerLength, lengthsKept, ofMeaning, called}

@@ -8,7 +8,8 @@ use Rattle.group.specs.State.{runSound}
 use Rattle.entry.specs.Rules.{mayFollow, entryFault}
 use Rattle.entry.specs.Scan.{scan}
 use Rattle.reader.specs.Answer.{isRepeat, readRefusal, groupScan}
-use Rattle.explain.specs.Explanation.{permitted, entryReason, callReason, explained}
+use Rattle.reasons.specs.Reasons.{permitted, entryReason, callReason}
+use Rattle.explain.specs.Explanation.{explained}
 use Rattle.states.specs.States.{readerOf, readerMeant}
 use Rattle.c_explain.specs.Calls.{stateExplained, ddsExplain}
 use Rattle.c_explain.specs.Worked.{explanationsShown, explanationsExpected}

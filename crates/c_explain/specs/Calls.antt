@@ -8,7 +8,8 @@ use lib.Dec.{eqb}
 use lib.ListN.{length}
 use Rattle.numbers.specs.Numbers.{inEights}
 use Rattle.explain.specs.declared.Explanation.{Explanation}
-use Rattle.explain.specs.Explanation.{noReason, explanation, explained}
+use Rattle.reasons.specs.Reasons.{noReason}
+use Rattle.explain.specs.Explanation.{explanation, explained}
 use Rattle.slices.specs.Call.{Left, left}
 use Rattle.states.specs.States.{readerLength, readerOf, readerMeant}
 

@@ -7,7 +7,8 @@ use mathlib.Core.List.{List, _∷_}
 use lib.ListN.{length}
 use Rattle.numbers.specs.Numbers.{inBytes}
 use Rattle.explain.specs.declared.Explanation.{Explanation}
-use Rattle.explain.specs.Explanation.{noReason, explanation}
+use Rattle.reasons.specs.Reasons.{noReason}
+use Rattle.explain.specs.Explanation.{explanation}
 use Rattle.explain.specs.Truth.{True}
 use Rattle.slices.specs.Call.{Left}
 use Rattle.states.specs.States.{readerOf}

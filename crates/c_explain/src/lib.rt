@@ -1,10 +1,11 @@
 // Why a read refuses, from C: seven numbers of eight bytes.
 ghost use mathlib.Core.Path.{_≡_};
 ghost use lib.ListN.{length};
-ghost use Rattle.explain.specs.Explanation.{noReason, explanation};
+ghost use Rattle.reasons.specs.Reasons.{noReason};
+ghost use Rattle.explain.specs.Explanation.{explanation};
 ghost use Rattle.c_explain.specs.Calls.{explanationLength, explains, tells, stateExplained, ddsExplain};
 use explain::Explanation;
-use explain::Reason;
+use reasons::Reason;
 
 // The length of an explanation, in bytes.
 const EXPLANATION_LENGTH: usize = 56;

@@ -1,6 +1,4 @@
 -- The laws that the proofs of this crate share, what an explanation comes to (Theorems), and that two of them coincide (Settled).
-pub mod Order
-pub mod Numbers
 pub mod Scanned
 pub mod Told
 pub mod Theorems

@@ -16,14 +16,15 @@ use Rattle.entry.specs.declared.ScanEnd.the-variants as scanned
 use Rattle.entry.specs.Rules.{entryFault}
 use Rattle.entry.specs.Scan.{after, isLast, scan}
 use Rattle.explain.specs.declared.Explanation.{Explanation}
-use Rattle.explain.specs.Rules.{Rule, Stop, inOrder, ruleNumber, keeps, firstBroken}
-use Rattle.explain.specs.Rules.Rule.{flagKnown, b4Stays, kindFollows, partNotEmpty, separatorValue, recordLength, totalSum, dataWithin, skipCount, totalInTime}
-use Rattle.explain.specs.Explanation.{explanation, entryReason, reasonAt, scanExplained}
+use Rattle.reasons.specs.Rules.{Rule, Stop, inOrder, ruleNumber, keeps, firstBroken}
+use Rattle.reasons.specs.Rules.Rule.{flagKnown, b4Stays, kindFollows, partNotEmpty, separatorValue, recordLength, totalSum, dataWithin, skipCount, totalInTime}
+use Rattle.reasons.specs.Reasons.{entryReason, reasonAt}
+use Rattle.explain.specs.Explanation.{explanation, scanExplained}
 use Rattle.explain.specs.Truth.{Keeps, Breaks, Stops, stopAt}
 use Rattle.explain.specs.Truth.Keeps.{keeps-none, keeps-more}
 use Rattle.explain.specs.Truth.Stops.{stops-here, stops-later}
-use Rattle.explain.proofs.Order.{in-order}
-use Rattle.explain.proofs.Numbers.{broken-by, allowed-by}
+use Rattle.reasons.proofs.Order.{in-order}
+use Rattle.reasons.proofs.Numbers.{broken-by, allowed-by}
 
 -- The first rule of some that an entry breaks, or that it keeps them all.
 data Found (at : Stop) (e : Entry) (rules : List Rule) : ℕ → Type 0 where

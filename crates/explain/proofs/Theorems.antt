@@ -18,15 +18,16 @@ use Rattle.reader.specs.declared.ReadAnswer.the-variants as answer
 use Rattle.reader.specs.Answer.{sound, lengthKept, repeats, isRepeat, nextIs, rowsFit, readRefusal, opening, closing, groupScan, answered, readCall, told}
 use Rattle.reader.proofs.Accepted.{read-scanned}
 use Rattle.explain.specs.declared.Explanation.{Explanation}
-use Rattle.explain.specs.Explanation.{reason, explanation, noRefusal, nextReason, callReason, scanExplained, largest, explained}
+use Rattle.reasons.specs.Reasons.{reason, nextReason, callReason, largest}
+use Rattle.explain.specs.Explanation.{explanation, noRefusal, scanExplained, explained}
 use Rattle.explain.specs.Truth.{True, SameTold}
 use Rattle.explain.specs.Truth.True.{accepted, a-repeat, unsound, wrong-length, not-next, entries-out, rows-short, stopped}
-use Rattle.explain.proofs.Numbers.{same-test, outside}
+use Rattle.reasons.proofs.Numbers.{same-test, outside}
 use Rattle.explain.proofs.Scanned.{stops-scan}
 
 module _ (s : Reader) (group : List ℕ) (number n bytes : ℕ) where
   -- 5: the next number alone is allowed, none at 65,536.
-  next-true : sound s ≡ true → lengthKept s (length group) ≡ true → repeats s number ≡ false → nextIs s number ≡ false → True s group number n bytes (explanation 5 0 0 (nextReason s number))
+  next-true : sound s ≡ true → lengthKept s (length group) ≡ true → repeats s number ≡ false → nextIs s number ≡ false → True s group number n bytes (explanation 5 0 0 (nextReason (s .next) number))
   next-true a b d c = by (leb (s .next) lastNumber) refl
     where
       by : (h : Bool) → leb (s .next) lastNumber ≡ h → True s group number n bytes (explanation 5 0 0 (cond h (reason number (s .next) (s .next) 0) (reason number 1 0 0)))
@@ -80,7 +81,7 @@ module _ (s : Reader) (group : List ℕ) (number n bytes : ℕ) where
       why repeat refusal =
           cond repeat noRefusal
           (cond (eqb refusal 0) (scanExplained (s .size) n group (groupScan s group n))
-          (explanation refusal 0 0 (callReason refusal s (length group) number n bytes)))
+          (explanation refusal 0 0 (callReason refusal (s .size) (s .next) (length group) number n bytes)))
 
       by : (a : Bool) → sound s ≡ a → (b : Bool) → lengthKept s (length group) ≡ b → (r : Bool) → repeats s number ≡ r → (c : Bool) → nextIs s number ≡ c →
           (d : Bool) → entriesKept (s .size) n ≡ d → (f : Bool) → rowsFit n (bytes / 4) ≡ f →
@@ -103,7 +104,7 @@ module _ (s : Reader) (group : List ℕ) (number n bytes : ℕ) where
     where
       by : (a : Bool) (refusal : ℕ) (b : Bool) (o : ScanEnd) →
           SameTold (told (cond a (answer.Repeated s) (cond b (answered s o) (answer.Refused s refusal 0))))
-          (cond a noRefusal (cond b (scanExplained (s .size) n group o) (explanation refusal 0 0 (callReason refusal s (length group) number n bytes))))
+          (cond a noRefusal (cond b (scanExplained (s .size) n group o) (explanation refusal 0 0 (callReason refusal (s .size) (s .next) (length group) number n bytes))))
       by true refusal b o = refl
       by false refusal true (scanned.Reached c) = refl
       by false refusal true (scanned.Refused fault place c) = (refl, refl)

@@ -16,8 +16,9 @@ use Rattle.entry.specs.declared.ScanEnd.the-variants as scanned
 use Rattle.reader.specs.declared.Reader.{Reader}
 use Rattle.reader.specs.Answer.{isRepeat, readRefusal, groupScan}
 use Rattle.reader.proofs.Accepted.{never-repeat}
-use Rattle.explain.specs.declared.Reason.{Reason}
-use Rattle.explain.specs.Explanation.{explanation, noRefusal, callReason, entryReason, stop, scanExplained, explained}
+use Rattle.reasons.specs.declared.Reason.{Reason}
+use Rattle.reasons.specs.Reasons.{callReason, entryReason, stop}
+use Rattle.explain.specs.Explanation.{explanation, noRefusal, scanExplained, explained}
 
 module _ (s : Reader) (group : List ℕ) (number n bytes : ℕ) where
   pub told-repeat : isRepeat s (length group) number ≡ true → noRefusal ≡ explained s group number n bytes
@@ -25,7 +26,7 @@ module _ (s : Reader) (group : List ℕ) (number n bytes : ℕ) where
   told-repeat e = rw e
 
   pub told-before : (r : ℕ) (why : Reason) → r ≡ readRefusal s (length group) number n (bytes / 4) → (r ≡ 0 → ⊥) → isRepeat s (length group) number ≡ false
-      → why ≡ callReason r s (length group) number n bytes → explanation r 0 0 why ≡ explained s group number n bytes
+      → why ≡ callReason r (s .size) (s .next) (length group) number n bytes → explanation r 0 0 why ≡ explained s group number n bytes
   unfolding explained
   told-before r why e h x w = rw (x, w, ← e, ne-eqb r 0 h)
 

@@ -1,4 +1,3 @@
--- What a reader of this crate must believe: the rules one by one, the explanation of a refusal, and when an explanation is true.
-pub mod Rules
+-- What a reader of this crate must believe: the explanation of a read, and when it is true.
 pub mod Explanation
 pub mod Truth

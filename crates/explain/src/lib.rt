@@ -1,21 +1,12 @@
 // Change request 2026-07: why a read refuses: the rule that is broken first, where, what was found there and what is allowed. None
 // of these functions requires anything.
-mod call;
-mod entries;
-mod kinds;
-
 ghost use mathlib.Core.Path.{_≡_};
 ghost use Rattle.explain.specs.Explanation.{noRefusal, explained};
 use entry::ScanEnd;
 use reader::Reader;
-
-// The numbers of a reason: what was found, the least and the greatest allowed, and the permitted kinds.
-pub struct Reason {
-    pub found: u64,
-    pub least: u64,
-    pub greatest: u64,
-    pub kinds: u64,
-}
+use reasons::Reason;
+use reasons::call;
+use reasons::entries;
 
 // An explanation: the refusal, its place, the byte offset of that entry, and why.
 pub struct Explanation {
@@ -34,7 +25,7 @@ impl Explanation {
             refusal: 0,
             place: 0,
             offset: 0,
-            why: call::no_reason(),
+            why: Reason::none(),
         }
     }
 
@@ -51,7 +42,15 @@ impl Explanation {
                 refusal,
                 place: 0,
                 offset: 0,
-                why: call::call_reason(refusal, reader, group.len(), number, entries, rows),
+                why: call::call_reason(
+                    refusal,
+                    reader.size,
+                    reader.next,
+                    group.len(),
+                    number,
+                    entries,
+                    rows,
+                ),
             };
         }
         let opening = reader::ends::opening(reader);

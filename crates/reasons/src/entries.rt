@@ -2,16 +2,15 @@
 ghost use mathlib.Core.Path.{_≡_};
 ghost use Rattle.group.specs.Sizes.{entryOffset};
 ghost use Rattle.group.specs.Flags.{b4Of};
-ghost use Rattle.explain.specs.Explanation.{b4Found, stop, entryReason};
+ghost use Rattle.reasons.specs.Reasons.{b4Found, stop, entryReason};
 use crate::Reason;
-use crate::call;
 use crate::kinds;
 use entry::Cursor;
 use group::Entry;
 use group::Group;
 
 // Where entry k of a group stands; 0 where the group is too small for it.
-pub(crate) fn entry_offset(size: u32, place: u32) -> u32
+pub fn entry_offset(size: u32, place: u32) -> u32
     ensures { λ r. ⌜ r ≡ entryOffset size place ⌝ }
 {
     let table = kinds::less(size, Group::INFORMATION_LENGTH);
@@ -28,7 +27,7 @@ fn b4_found(flag: u8) -> u64
 }
 
 // By the number of the rule that entry k of n breaks, where the scan has come to `here`.
-pub(crate) fn entry_reason(
+pub fn entry_reason(
     refusal: u32,
     size: u32,
     entries: u32,
@@ -41,8 +40,8 @@ pub(crate) fn entry_reason(
     let count = entry.count as u64;
     let sum = here.sum as u64;
     match refusal {
-        8 => call::reason(entry.flag as u64, 0, 0),
-        9 => call::reason(b4_found(entry.flag), 1, 1),
+        8 => Reason::of(entry.flag as u64, 0, 0),
+        9 => Reason::of(b4_found(entry.flag), 1, 1),
         10 => {
             let stand = here.stand;
             Reason {
@@ -52,20 +51,20 @@ pub(crate) fn entry_reason(
                 kinds: kinds::permitted(stand, place == entries),
             }
         }
-        12 => call::reason(
+        12 => Reason::of(
             (here.reached as u64) + count,
             0,
             entry_offset(size, entries) as u64,
         ),
         13 => {
             let rest = kinds::less(size, here.reached) as u64;
-            call::reason(count, rest, rest)
+            Reason::of(count, rest, rest)
         }
-        19 => call::reason(count, 1, Group::LONGEST_RECORD as u64),
-        20 => call::reason(count, 0, 1),
-        21 => call::reason(count, 1, kinds::leaves_it(entry.flag, here.sum) as u64),
-        22 => call::reason(count, sum, sum),
-        23 => call::reason(count, 0, Group::MOST_OWING as u64),
-        _ => call::no_reason(),
+        19 => Reason::of(count, 1, Group::LONGEST_RECORD as u64),
+        20 => Reason::of(count, 0, 1),
+        21 => Reason::of(count, 1, kinds::leaves_it(entry.flag, here.sum) as u64),
+        22 => Reason::of(count, sum, sum),
+        23 => Reason::of(count, 0, Group::MOST_OWING as u64),
+        _ => Reason::none(),
     }
 }

@@ -22,10 +22,10 @@ use Rattle.counts.specs.Counts.{isAmong, holdsData, tooLong}
 use Rattle.entry.specs.declared.Stand.{Stand}
 use Rattle.entry.specs.declared.Stand.the-variants.{Free, AfterPart, Inside, AfterLast, Owed}
 use Rattle.entry.specs.Rules.{mayFollow, isSkip, b4Kept, followKept, reachedAfter, mayOwe}
-use Rattle.explain.specs.Rules.{Rule, Stop, keeps, kindKeeps}
-use Rattle.explain.specs.Rules.Rule.{flagKnown, b4Stays, kindFollows, partNotEmpty, separatorValue, recordLength, totalSum, dataWithin, skipCount, totalInTime}
-use Rattle.explain.specs.Explanation.{reason, b4Found, leaves, permitted, reasonAt}
-use Rattle.explain.specs.Truth.{isPermitted, BrokenBy, AllowedBy}
+use Rattle.reasons.specs.Rules.{Rule, Stop, keeps, kindKeeps}
+use Rattle.reasons.specs.Rules.Rule.{flagKnown, b4Stays, kindFollows, partNotEmpty, separatorValue, recordLength, totalSum, dataWithin, skipCount, totalInTime}
+use Rattle.reasons.specs.Reasons.{reason, b4Found, leaves, permitted, reasonAt}
+use Rattle.reasons.specs.Truth.{isPermitted, BrokenBy, AllowedBy}
 
 -- Two tests that follow from each other are the same; and a number that is not between two.
 pub same-test : (a b : Bool) → (a ≡ true → b ≡ true) → (b ≡ true → a ≡ true) → a ≡ b

@@ -2,7 +2,7 @@
 ghost use mathlib.Core.Path.{_≡_};
 ghost use Prim.Native.Nat.{_-_};
 ghost use Rattle.group.specs.Flags.{meaningOf};
-ghost use Rattle.explain.specs.Explanation.{permitted, leaves, kindFound, leavesIt};
+ghost use Rattle.reasons.specs.Reasons.{permitted, leaves, kindFound, leavesIt};
 use entry::Stand;
 use group::Group;
 use group::Kind;

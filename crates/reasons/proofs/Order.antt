@@ -7,7 +7,7 @@ use Rattle.group.specs.declared.Meaning.{Meaning}
 use Rattle.group.specs.declared.Meaning.the-variants.{Known, Unknown}
 use Rattle.counts.specs.Counts.{zeroPart, aboveOne, tooLong, differs}
 use Rattle.entry.specs.Rules.{b4Kept, followKept, roomKept, skipKept, owedKept, orElse, entryFault}
-use Rattle.explain.specs.Rules.{Stop, inOrder, firstBroken}
+use Rattle.reasons.specs.Rules.{Stop, inOrder, firstBroken}
 
 -- The tests one by one, whichever refuses first.
 ordered : (b4 follow zero above long differs room skip owed : Bool) →

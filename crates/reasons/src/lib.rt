@@ -1,0 +1,36 @@
+// Change request 2026-07: the numbers of a reason: what was found, the least and the greatest allowed, and the permitted kinds, for each
+// refusal of reading. None of these functions requires anything: differences stop at 0, and sums are taken in 64 bits.
+pub mod call;
+pub mod entries;
+mod kinds;
+
+ghost use mathlib.Core.Path.{_≡_};
+ghost use Rattle.reasons.specs.Reasons.{reason, noReason};
+
+// The numbers of a reason: what was found, the least and the greatest allowed, and the permitted kinds.
+pub struct Reason {
+    pub found: u64,
+    pub least: u64,
+    pub greatest: u64,
+    pub kinds: u64,
+}
+
+impl Reason {
+    pub fn of(found: u64, least: u64, greatest: u64) -> Reason
+        ensures { λ r. ⌜ r ≡ reason found least greatest 0 ⌝ }
+    {
+        Reason {
+            found,
+            least,
+            greatest,
+            kinds: 0,
+        }
+    }
+
+    // Where a rule has no such number.
+    pub fn none() -> Reason
+        ensures { λ r. ⌜ r ≡ noReason ⌝ }
+    {
+        Reason::of(0, 0, 0)
+    }
+}
