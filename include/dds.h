@@ -1,10 +1,10 @@
 /* dds.h: writing and reading the Basic Groups and the Sub Data Blocks of DDS tapes, their third code, and an AIT loader's
    memory, called from C. This is the reference of every call; docs/C-INTERFACE.md says what is about more than one.
 
-   Eighteen calls on plain numbers and lent byte slices. A slice is a pointer and a length in bytes. Every number inside a
-   slice is four bytes, most significant first; dds_number below reads one. Each call returns the refusal number,
-   DDS_ACCEPTED if it was accepted. The library keeps nothing between calls, allocates nothing and calls nothing but memset
-   and memcpy.
+   Nineteen calls on plain numbers and lent byte slices. A slice is a pointer and a length in bytes. Every number inside a
+   slice is four bytes, most significant first; dds_number below reads one. The explanation of dds_explain alone has numbers of
+   eight bytes, most significant first too; dds_long_number reads one. Each call returns the refusal number, DDS_ACCEPTED if it
+   was accepted. The library keeps nothing between calls, allocates nothing and calls nothing but memset and memcpy.
 
    Slices
    - A slice of length 0 may come with a null pointer or with any other.
@@ -12,6 +12,9 @@
      looked for; what happens then is not said here.
    - A state or answer slice of another length than its own is DDS_REFUSED_STATE, before everything else, at a start too,
      and nothing at all is written. Every other refusal writes the answer slice and nothing else.
+   - dds_explain is the exception. It has no answer slice but an explanation. An explanation of another length is
+     DDS_REFUSED_EXPLANATION, before everything else, and nothing at all is written. A state slice of another length is
+     DDS_REFUSED_STATE too, but that is put into the explanation, as every refusal of a read is.
    - Slices marked const are never written and may stand in read-only memory.
    - No slice need be aligned, and no length or number is cut: a group of 2^32 + 64 bytes is not a group of 64.
 
@@ -30,13 +33,13 @@ extern "C" {
 
 /* ---- Version
 
-   How many change requests have landed, then the last of them, as one decimal number: 8, and 2026-06. Each landing makes it
+   How many change requests have landed, then the last of them, as one decimal number: 9, and 2026-07. Each landing makes it
    greater, so it compares, also where a request of a lower number lands later. Header and archive of one build belong together.
 
    States are not kept across versions: in another a state may have other fields or another length. A run is ended before the
    change, or started anew after it. */
 
-#define DDS_VERSION 8202606u
+#define DDS_VERSION 9202607u
 
 /* ---- Sizes */
 
@@ -61,8 +64,9 @@ extern "C" {
 
 #define DDS_READER_LEN 24u             /* a reader's state */
 #define DDS_WRITER_LEN 32u             /* a writer's state */
-#define DDS_ANSWER_LEN 24u             /* the answer, the same for every call */
+#define DDS_ANSWER_LEN 24u             /* the answer, the same for every call but dds_explain, which has none */
 #define DDS_ROW_LEN    12u             /* one row; a read of n entries needs n rows at least */
+#define DDS_EXPLANATION_LEN 56u        /* the explanation of dds_explain */
 
 #define DDS_TRACK_LEN   560u           /* a track: 16 Sub Data Blocks */
 #define DDS_PACKS_LEN   8u             /* Pack IDs: one byte for each even block, 0, 2 .. 14 */
@@ -121,6 +125,16 @@ extern "C" {
 #define DDS_OUTCOME_NONE     0u        /* search: no message begins in the bytes; both places are 0 */
 #define DDS_OUTCOME_FOUND    1u        /* search: found */
 
+/* ---- Fields of the explanation: seven numbers of eight bytes each. dds_long_number(explanation, DDS_EXPLANATION_FOUND) */
+
+#define DDS_EXPLANATION_REFUSAL  0u    /* the number the call returns too */
+#define DDS_EXPLANATION_PLACE    8u    /* the entry, from 1; 0 where no entry is at fault */
+#define DDS_EXPLANATION_OFFSET   16u   /* where that entry stands in the group, L - 32 - 4 * place; 0 without a place */
+#define DDS_EXPLANATION_FOUND    24u   /* the number found */
+#define DDS_EXPLANATION_LEAST    32u   /* the least number allowed .. */
+#define DDS_EXPLANATION_GREATEST 40u   /* .. and the greatest; where that is below the least, none is allowed */
+#define DDS_EXPLANATION_KINDS    48u   /* refusal 10: the permitted kinds, their DDS_KIND_VALUE(kind) added up; otherwise 0 */
+
 /* ---- Fields of a row */
 
 #define DDS_ROW_KIND   0u              /* DDS_KIND_.. */
@@ -134,6 +148,9 @@ extern "C" {
 #define DDS_KIND_LAST      5u          /* count: bytes of this part */
 #define DDS_KIND_ENTIRE    6u          /* count: bytes of the record */
 #define DDS_KIND_SKIP      7u          /* count: L less all data bytes before it */
+
+/* a kind's value among permitted kinds, 1 for a total up to 64 for a skip: kinds & DDS_KIND_VALUE(DDS_KIND_LAST) */
+#define DDS_KIND_VALUE(kind) (1u << ((kind) - 1u))
 
 #define DDS_SEPARATOR_1 0u             /* a separator's count, and the `value` of dds_separator */
 #define DDS_SEPARATOR_2 1u
@@ -220,6 +237,7 @@ extern "C" {
 #define DDS_REFUSED_TOO_LONG      21u  /* parts that add up to too long a record: read, at an entry */
 #define DDS_REFUSED_TOTAL_DIFFERS 22u  /* a total that is not the sum of its parts: read, at an entry */
 #define DDS_REFUSED_OWED_EARLY    23u  /* a total owed too early, a skip of 44 or more behind a last: read, at entry 2 */
+#define DDS_REFUSED_EXPLANATION   24u  /* explanation slice not 56 bytes: explain */
 #define DDS_REFUSED_LENGTH        30u  /* a buffer's length is not its own: make, read of a track */
 #define DDS_REFUSED_PARITY        31u  /* parity is not SW1 exclusive or SW2: read of a track, at a block */
 #define DDS_REFUSED_SW1           32u  /* Area ID not allowed: make; SW1 not this track's: read, at a block */
@@ -244,12 +262,19 @@ static inline uint32_t dds_number(const uint8_t *slice, size_t field)
     return number << 8 | slice[field + 3];
 }
 
+/* A number of the explanation: the eight bytes from `field` on, most significant first. */
+
+static inline uint64_t dds_long_number(const uint8_t *slice, size_t field)
+{
+    return (uint64_t)dds_number(slice, field) << 32 | dds_number(slice, field + 4);
+}
+
 /* ---- Starting
 
    size    group size L, DDS_SIZE_LEAST to DDS_SIZE_STANDARD
    first   the number of the run's first group, DDS_NUMBER_LEAST to DDS_NUMBER_MOST
    state   DDS_READER_LEN or DDS_WRITER_LEN bytes; what they hold does not matter
-   answer  DDS_ANSWER_LEN bytes, as in every call
+   answer  DDS_ANSWER_LEN bytes, as in every call but dds_explain
 
    Accepted: the state is filled; it is free, with nothing read or laid, no group accepted and b4 clear. The answer is zeros.
    Refused: the state slice stays as it was.
@@ -279,7 +304,7 @@ uint32_t dds_writer_start(uint32_t size, uint32_t first, uint8_t *state, size_t 
    at, and not its bytes, the entry count or the rows. There may be any number of repeats, one behind the other, behind a refused
    group and behind group 65,535. Before any group has been accepted in the run there is none.
    Refused: state and rows stay as they were; the answer says the number and, for 8 to 13 and 19 to 23, the entry. The same
-   state may then be tried on another group.
+   state may then be tried on another group. Lent the same, dds_explain says what was found and what is allowed.
    Refusals in order: 1, 4; here a repeat is told; 5, 6, 7; then entry by entry from 1, and at one entry 8, 9, 10, one of 19 to
    22, 12, 13, 23. The first entry that breaks a rule is the one told. b4 goes on from group to group: where the state has it set,
    entry 1 is 9 without it. A total is owed only where it had no room: behind a last a skip counts 40 to 43, or is 23.
@@ -301,6 +326,60 @@ uint32_t dds_writer_start(uint32_t size, uint32_t first, uint8_t *state, size_t 
 
 uint32_t dds_read(uint8_t *state, size_t state_len, const uint8_t *group, size_t group_len, uint32_t number,
                   uint32_t entries, uint8_t *rows, size_t rows_len, uint8_t *answer, size_t answer_len);
+
+/* Explains a read: what dds_read, lent the same, would refuse, where, what was found there and what is allowed. Nothing is read
+   into place: state, group and rows are never written, and a read made after it is as if it had not been made.
+   state        DDS_READER_LEN bytes, as they were lent to the read; a refused read leaves them so
+   group        L bytes; of them only the table of entries is looked at, and of that no entry behind the one that is told
+   number       the group's number and
+   entries      its entry count, as the read is given them
+   rows         lent for its length alone: not one of its bytes is looked at
+   explanation  DDS_EXPLANATION_LEN bytes; what they hold does not matter, and all of them are written
+
+   The explanation is seven numbers of eight bytes: refusal, place, offset, found, least, greatest, permitted kinds. Refusal and
+   place are what dds_read answers for the same state, group, number, entries and rows. Where it accepts the group or tells a
+   repeat, all seven are 0 and the call returns DDS_ACCEPTED; which of the two it is, only the read tells. Found is the number
+   that breaks the rule, and least to greatest are those that keep it. Where a rule has no such number, zeros stand:
+
+       refusal      found                                 least         greatest
+       1            0                                     0             0
+       4            length of the group slice             L             L
+       5            number                                next          next; where next is 65,536: 1 and 0, none is allowed
+       6            entries                               1             (L - 32) / 4, rounded down
+       7            length of the row slice in bytes      12n           2^64 - 1
+       8            the flag byte                         0             0: there are no limits, see DDS_FLAG_..
+       9            b4 of the entry, 0                    1             1
+       10           the kind, DDS_KIND_..                 0             0: the permitted kinds say it
+       19           the count, 0                          1             16,777,215
+       20           the count                             0             1
+       21, start    the count                             1             16,777,214
+       21, middle   the count                             1             16,777,214 - sum; with a sum of 16,777,214: 0, none
+       21, last     the count                             1             16,777,215 - sum
+       22           the count                             sum           sum
+       12           data before the entry, and its count  0             L - 32 - 4n
+       13           the count                             L less data   the same
+       23           the skip's count                      0             43
+
+   n is `entries`, next and sum are the reader's, before this entry. Each of these is broken by the number found, and every rule
+   before it in the order of dds_read is kept, at all entries before this one too. To put another number there that is allowed
+   keeps this rule; one behind it in the order may then be broken.
+
+   The permitted kinds heed the last place: at entry n only a skip can stand, before it no skip. So before entry n, and at it:
+   free 42 (separator, start, entire) and 64 (skip); inside 20 (middle, last) and 0; total owed 1 (total) and 0; after a start or
+   a middle 0 and 64; after a last 1 and 64. With 0 no kind may stand there: the entry count is wrong, or an entry before it.
+
+   So a refusal is explained, with the state that the read was lent, by
+
+       if (dds_read(state, DDS_READER_LEN, group, L, number, entries, rows, rows_len, answer, DDS_ANSWER_LEN) != DDS_ACCEPTED) {
+           dds_explain(state, DDS_READER_LEN, group, L, number, entries, rows, rows_len, explanation, DDS_EXPLANATION_LEN);
+           show(dds_long_number(explanation, DDS_EXPLANATION_FOUND), ..);
+       }
+
+   Refusals in order: 24, which writes nothing at all; then those of dds_read in its order, put into the explanation, a state
+   slice of another length as 1 with zeros in the other six numbers. */
+
+uint32_t dds_explain(const uint8_t *state, size_t state_len, const uint8_t *group, size_t group_len, uint32_t number,
+                     uint32_t entries, const uint8_t *rows, size_t rows_len, uint8_t *explanation, size_t explanation_len);
 
 /* ---- Writing
 

@@ -6,10 +6,10 @@
 
 #include "guard.h"
 
-/* ---- The examples. Each slice of the call in its order, the answer's last: what it holds before, LENT bytes where no text is
-   given, and what after, the same where none is given. A byte LENT before is one that the call has no business with: undefined.c
-   lends memory there that was never written. A text may end before zeros that fill the slice to its own length. Other numbers are
-   given too where numbers can be wrong, with their refusal: all slices must then stay but the answer. */
+/* ---- The examples. Each slice of the call in its order, the answer or the explanation last: what it holds before, LENT bytes
+   where no text is given, and what after, the same where none is given. A byte LENT before is one that the call has no business
+   with: undefined.c lends memory there that was never written. A text may end before zeros that fill the slice to its own length.
+   Other numbers are given too where numbers can be wrong, with their refusal: all slices must then stay but the last. */
 
 typedef struct {
     int call;
@@ -61,6 +61,30 @@ static const example examples[] = {
         { 0, "00*8 00 00 00 02" } } },
     { READ, { 65535, 0 }, { 65536, 1 }, 5, { { "00*3 40 00 01 00*2 00*3 02 00*3 2D 00*3 01 00*3 01", 0 }, { "EE*64", 0 },
         { 0, 0 }, { 0, "00*8 00 00 00 02" } } },
+    /* reads explained: accepted; a total of 43 that should be 44; a last where no record is open; a separator at entry n; b4 that
+       goes out; flag 43; the last part of P4, owed too early; 23 bytes of rows for two entries; a repeat; no number remains */
+    { EXPLAIN, { 7, 2 }, { 6, 0 }, 5, { { "00*3 40 00*3 07", 0 }, { "EE*24 80 00 00 40 07 00 00 01 EE*32", 0 }, { "EE*24", 0 },
+        { 0, "00" } } },
+    { EXPLAIN, { 2, 3 }, { 2, 0 }, 6, { { "00*3 40 00*3 02 00*3 01 00*3 18 00*4 00*3 01", 0 },
+        { "EE*20 80 00 00 2C 01 00 00 2B 60 00 00 14 EE*32", 0 }, { "EE*36", 0 },
+        { 0, "00*7 16 00*7 02 00*7 18 00*7 2B 00*7 2C 00*7 2C" } } },
+    { EXPLAIN, { 3, 3 }, { 2, 3 }, 5, { { "00*3 40 00*3 03", 0 }, { "EE*28 60 00 00 14 EE*32", 0 }, { "EE*36", 0 },
+        { 0, "00*7 0A 00*7 01 00*7 1C 00*7 05 00*16 00*7 2A" } } },
+    { EXPLAIN, { 7, 2 }, { 8, 2 }, 5, { { "00*3 40 00*3 07", 0 }, { "EE*24 07 00 00 00 07 00 00 01 EE*32", 0 }, { "EE*24", 0 },
+        { 0, "00*7 0A 00*7 02 00*7 18 00*7 02 00*16 00*7 40" } } },
+    { EXPLAIN, { 7, 2 }, { 7, 9 }, 6, { { "00*3 40 00*3 07 00*8 00*3 01", 0 }, { "EE*28 07 00 00 01 EE*32", 0 },
+        { "EE*24", 0 }, { 0, "00*7 09 00*7 01 00*7 1C 00*8 00*7 01 00*7 01" } } },
+    { EXPLAIN, { 1, 2 }, { 2, 9 }, 5, { { "00*3 40 00*3 01", 0 }, { "EE*28 43 00 00 14 EE*32", 0 }, { "EE*24", 0 },
+        { 0, "00*7 08 00*7 01 00*7 1C 00*7 43" } } },
+    { EXPLAIN, { 2, 2 }, { 2, 9 }, 6, { { "00*3 40 00*3 02 00*3 01 00*3 18 00*4 00*3 01", 0 },
+        { "EE*24 80 00 00 2C 60 00 00 14 EE*32", 0 }, { "EE*24", 0 },
+        { 0, "00*7 17 00*7 02 00*7 18 00*7 2C 00*8 00*7 2B" } } },
+    { EXPLAIN, { 7, 2 }, { 7, 9 }, 6, { { "00*3 40 00*3 07", 0 }, { "EE*64", 0 }, { "EE*23", 0 },
+        { 0, "00*7 07 00*16 00*7 17 00*7 18 FF*8 00*8" } } },
+    { EXPLAIN, { 1, 2 }, { 0, 2 }, 5, { { "00*3 40 00*3 02 00*3 01 00*3 18 00*4 00*3 01", 0 }, { "EE*64", 0 }, { 0, 0 },
+        { 0, "00" } } },
+    { EXPLAIN, { 3, 0 }, { 65536, 1 }, 5, { { "00*3 40 00 01 00*2 00*3 02 00*3 2D 00*3 01 00*3 01", 0 }, { "EE*64", 0 },
+        { 0, 0 }, { 0, "00*7 05 00*16 00*7 03 00*7 01" } } },
     /* an entire record of 5; 24 of 44 bytes, which close the group; the 20 that are left, with b4 */
     { RECORD, { 0 }, { 2 }, 1, { { "00*3 40 00*3 07 00*8 00*3 03 00*3 01", "00*3 40 00*3 07 00*8 00*3 08 00*3 02" },
         { "EE*64", "EE*3 01-05 EE*16 63 00 00 05 EE*36" }, { "01-05", 0 }, { 0, "00" } } },
@@ -136,6 +160,12 @@ static inline worked work_out(const example *e)
         check(len == w.len[s->which], calls[e->call].name, "an example's texts are of one length");
     }
     return w;
+}
+
+/* the refusal that stands in the last slice after it */
+static inline uint32_t told_after(const example *e, const worked *w)
+{
+    return (uint32_t)told_number(e->call, w->after[told_in(e->call)->which], 0);
 }
 
 static inline void forget(worked *w)

@@ -1,6 +1,6 @@
-/* Bytes at the edge of a page that may not be touched, and pages that may not be written: what a call reads or writes
-   outside its slices, or in a const slice, ends the test and is told by the call's name. The program defines _DEFAULT_SOURCE
-   before its first include. */
+/* Bytes at the edge of a page that may not be touched, and pages that may not be written, or not even read: what a call reads or
+   writes outside its slices or in an unread one, or writes in a const one, ends the test and is told by the call's name. The
+   program defines _DEFAULT_SOURCE before its first include. */
 
 #ifndef FENCE_H
 #define FENCE_H
@@ -36,6 +36,12 @@ static inline uint8_t *fenced(size_t len, int at_end)
 static inline void read_only(uint8_t *at, size_t len)
 {
     if (len && mprotect(page_of(at), pages_len(len), PROT_READ)) stop("no read-only page", "mprotect");
+}
+
+/* fenced bytes, from now on not touched at all, until they are read-only again */
+static inline void forbid(uint8_t *at, size_t len)
+{
+    if (len && mprotect(page_of(at), pages_len(len), PROT_NONE)) stop("no forbidden page", "mprotect");
 }
 
 static inline void unfence(uint8_t *at, size_t len) { munmap(page_of(at) - page_len(), pages_len(len) + 2 * page_len()); }

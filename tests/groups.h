@@ -1,4 +1,4 @@
-/* What the hand-written tests of the calls on groups share: desks with a reader's or a writer's state, the six calls by short
+/* What the hand-written tests of the calls on groups share: desks with a reader's or a writer's state, the seven calls by short
    names, tables and data to lend, and the states that are expected. A state is put together here and nowhere else. */
 
 #ifndef GROUPS_H
@@ -37,10 +37,11 @@ static inline void put_writer(uint8_t *state, uint32_t size, uint32_t next, uint
 }
 
 /* a desk to read at or to write at, with a group of the state's size. A reader's b4 is clear and no group was accepted, unless
-   they are given. */
+   they are given; reads can be explained at it too. */
 static inline desk reader_with(uint32_t size, uint32_t next, uint32_t phase, uint32_t sum, uint32_t b4, uint32_t accepted)
 {
     desk d = desk_for(READ);
+    relend(&d.of[EXPLANATION], DDS_EXPLANATION_LEN);
     relend(&d.of[GROUP], size < 200000 ? size : 64);
     put_reader(d.of[STATE].at, size, next, phase, sum, b4, accepted);
     return d;
@@ -126,6 +127,7 @@ static inline void table(desk *d, uint32_t n, const uint32_t *entries)
 static inline void reader_starts(desk *d, uint32_t size, uint32_t first) { make(d, READER_START, size, first, 0); }
 static inline void writer_starts(desk *d, uint32_t size, uint32_t first) { make(d, WRITER_START, size, first, 0); }
 static inline void reads(desk *d, uint32_t number, uint32_t entries) { make(d, READ, number, entries, 0); }
+static inline void explains(desk *d, uint32_t number, uint32_t entries) { make(d, EXPLAIN, number, entries, 0); }
 static inline void records(desk *d, uint32_t warn) { make(d, RECORD, warn, 0, 0); }
 static inline void separates(desk *d, uint32_t value, uint32_t warn) { make(d, SEPARATOR, value, warn, 0); }
 static inline void ends(desk *d, uint32_t warn) { make(d, END, warn, 0, 0); }
@@ -136,7 +138,7 @@ static inline void finished(const desk *d, const char *name) { answer_is(d, name
 static inline void repeated(const desk *d, const char *name)
 {
     answer_is(d, name, 0, 0, DDS_OUTCOME_REPEAT, 0, 0, 0);
-    answered_alone(d, name);
+    told_alone(d, name);
 }
 
 static inline void closed(const desk *d, const char *name, uint32_t number, uint32_t entries, uint32_t taken)

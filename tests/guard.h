@@ -114,6 +114,10 @@ static inline uint32_t get(const uint8_t *p)
     return (uint32_t)p[0] << 24 | (uint32_t)p[1] << 16 | (uint32_t)p[2] << 8 | (uint32_t)p[3];
 }
 
+/* the numbers of an explanation, of eight bytes */
+static inline void put_long(uint8_t *p, uint64_t n) { put(p, (uint32_t)(n >> 32)); put(p + 4, (uint32_t)n); }
+static inline uint64_t get_long(const uint8_t *p) { return (uint64_t)get(p) << 32 | get(p + 4); }
+
 /* the bytes of a text, into an allocation of just their length; how many there are, into *len */
 static inline uint8_t *bytes(const char *text, size_t *len)
 {
@@ -173,9 +177,23 @@ static inline void set(slice *s, const char *text)
 
 /* ---- A desk: everything lent to a call or to calls one after another, and what the last one returned */
 
-typedef struct { slice of[SLICES]; uint32_t refusal; } desk;
+typedef struct { slice of[SLICES]; int call; uint32_t refusal; } desk;
 
 static inline size_t own_length(const lent_slice *s) { return s->length > ANY_LENGTH ? s->length : 0; }
+
+/* the slice that a call tells its refusal in, its last: the answer, or the explanation */
+static inline const lent_slice *told_in(int call)
+{
+    const lent_slice *s = calls[call].slices;
+    while (s[1].which) s++;
+    return s;
+}
+
+/* the numbers that begin that slice, of four bytes in an answer and of eight in an explanation: the refusal, the place */
+static inline uint64_t told_number(int call, const uint8_t *at, size_t i)
+{
+    return told_in(call)->which == EXPLANATION ? get_long(at + 8 * i) : get(at + 4 * i);
+}
 
 /* the slices of a call, each of its own length, empty where it has none */
 static inline desk desk_for(int call)
@@ -185,6 +203,7 @@ static inline desk desk_for(int call)
     const lent_slice *s;
     for (i = 0; i < SLICES; i++) d.of[i] = lend_null();
     for (s = calls[call].slices; s->which; s++) d.of[s->which] = lend(own_length(s));
+    d.call = call;
     d.refusal = 99;
     return d;
 }
@@ -217,10 +236,11 @@ static inline void make(desk *d, int call, uint32_t a, uint32_t b, uint32_t c)
     for (i = 0; i < SLICES; i++) keep(&d->of[i]);
     spans_of(d, call, 0, spans);
     calling = calls[call].name;
+    d->call = call;
     d->refusal = calls[call].library(numbers, spans);
     for (s = calls[call].slices; s->which; s++) {
         check(guarded(&d->of[s->which]), calls[call].name, "guard bytes");
-        if (s->written == CONST) check(kept(&d->of[s->which]), calls[call].name, "a const slice stays");
+        if (s->written != WRITTEN) check(kept(&d->of[s->which]), calls[call].name, "a const slice stays");
     }
 }
 
@@ -245,27 +265,49 @@ static inline int answer_is(const desk *d, const char *name, uint32_t refusal, u
 
 static inline void accepted(const desk *d, const char *name) { answer_is(d, name, 0, 0, 0, 0, 0, 0); }
 
-static inline void answered_alone(const desk *d, const char *name)
+/* the answer, or the explanation, and nothing else written */
+static inline void told_alone(const desk *d, const char *name)
 {
     int i;
     for (i = 0; i < SLICES; i++)
-        if (i != ANSWER && d->of[i].base) check(kept(&d->of[i]), name, "the answer alone is written");
+        if (i != told_in(d->call)->which && d->of[i].base) check(kept(&d->of[i]), name, "the answer alone is written");
 }
 
-/* a refusal with its answer, and nothing else written */
+/* a refusal with its answer, and nothing else written. Of an explanation refusal and place alone: `explained` has all of it. */
 static inline void refused(const desk *d, const char *name, uint32_t refusal, uint32_t place)
 {
-    answer_is(d, name, refusal, place, 0, 0, 0, 0);
-    answered_alone(d, name);
+    const uint8_t *at = d->of[told_in(d->call)->which].at;
+    if (told_in(d->call)->which == ANSWER) answer_is(d, name, refusal, place, 0, 0, 0, 0);
+    else check(d->refusal == refusal && told_number(d->call, at, 0) == refusal && told_number(d->call, at, 1) == place, name,
+               "explanation");
+    told_alone(d, name);
 }
 
-/* refusal 1 by length: nothing written at all */
+/* a refusal by the length of the slice that it would be told in, or of a state beside an answer: nothing written at all. It is 1,
+   or 24 where there is an explanation. */
 static inline void refused_unwritten(const desk *d, const char *name)
 {
     int i;
-    check(d->refusal == 1, name, "returns 1");
+    check(d->refusal == told_in(d->call)->refusal, name, "returns the refusal by length");
     for (i = 0; i < SLICES; i++)
         if (d->of[i].base) check(kept(&d->of[i]), name, "nothing is written at all");
+}
+
+/* the whole explanation, and nothing else written */
+static inline void explained(const desk *d, const char *name, uint32_t refusal, uint64_t place, uint64_t offset, uint64_t found,
+                             uint64_t least, uint64_t greatest, uint64_t kinds)
+{
+    uint8_t wanted[DDS_EXPLANATION_LEN];
+    put_long(wanted, refusal);
+    put_long(wanted + 8, place);
+    put_long(wanted + 16, offset);
+    put_long(wanted + 24, found);
+    put_long(wanted + 32, least);
+    put_long(wanted + 40, greatest);
+    put_long(wanted + 48, kinds);
+    check(d->refusal == refusal, name, "returns the refusal of the explanation");
+    check(same_bytes(wanted, sizeof wanted, d->of[EXPLANATION].at, d->of[EXPLANATION].len), name, "explanation");
+    told_alone(d, name);
 }
 
 static inline void slice_is(const desk *d, int which, const char *name, const char *text)

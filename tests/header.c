@@ -1,6 +1,6 @@
 /* The header alone, included first and twice, as C99 and as C++: its constants are the numbers of documents 01 and 02 and the
    fields and lengths of docs/C-INTERFACE.md, its prototypes link, and the library goes by its flags, limits, Pack IDs and by what
-   it says of a repeat. Also what it says of an offer: only the bytes taken are read. */
+   it says of a repeat and of an explanation. Also what it says of an offer: only the bytes taken are read. */
 
 #define _DEFAULT_SOURCE /* mmap */
 
@@ -15,7 +15,7 @@ static const struct { const char *name; uint32_t found, wanted; } constants[] = 
 #define IS(name, wanted) { #name, name, wanted },
     IS(DDS_SIZE_LEAST, 64) IS(DDS_SIZE_STANDARD, 126632) IS(DDS_NUMBER_LEAST, 1) IS(DDS_NUMBER_MOST, 65535)
     IS(DDS_RECORD_MOST, 16777215) IS(DDS_INFORMATION_LEN, 32) IS(DDS_ENTRY_LEN, 4)
-    IS(DDS_VERSION, 8202606) IS(DDS_PART_INDEX_LEN, 40)
+    IS(DDS_VERSION, 9202607) IS(DDS_PART_INDEX_LEN, 40)
     IS(DDS_PART_MOST(64), 24) IS(DDS_PART_MOST(126632), 126592)
     IS(DDS_ENTRIES_MOST(64), 8) IS(DDS_ENTRIES_MOST(67), 8) IS(DDS_ENTRIES_MOST(68), 9) IS(DDS_ENTRIES_MOST(126632), 31650)
     IS(DDS_ROWS_LEN(64), 96) IS(DDS_ROWS_LEN(128 >> 1), 96) IS(DDS_PART_MOST(128 >> 1) / 2, 12) IS(DDS_ROWS_LEN(126632), 379800)
@@ -27,6 +27,11 @@ static const struct { const char *name; uint32_t found, wanted; } constants[] = 
     IS(DDS_ANSWER_REFUSAL, 0) IS(DDS_ANSWER_PLACE, 4) IS(DDS_ANSWER_OUTCOME, 8) IS(DDS_ANSWER_NUMBER, 12)
     IS(DDS_ANSWER_ENTRIES, 16) IS(DDS_ANSWER_TAKEN, 20) IS(DDS_OUTCOME_FINISHED, 0) IS(DDS_OUTCOME_CLOSED, 1)
     IS(DDS_OUTCOME_REPEAT, 2)
+    IS(DDS_EXPLANATION_LEN, 56) IS(DDS_EXPLANATION_REFUSAL, 0) IS(DDS_EXPLANATION_PLACE, 8) IS(DDS_EXPLANATION_OFFSET, 16)
+    IS(DDS_EXPLANATION_FOUND, 24) IS(DDS_EXPLANATION_LEAST, 32) IS(DDS_EXPLANATION_GREATEST, 40) IS(DDS_EXPLANATION_KINDS, 48)
+    IS(DDS_KIND_VALUE(1), 1) IS(DDS_KIND_VALUE(DDS_KIND_SEPARATOR), 2) IS(DDS_KIND_VALUE(DDS_KIND_MIDDLE), 4)
+    IS(DDS_KIND_VALUE(DDS_KIND_START), 8) IS(DDS_KIND_VALUE(DDS_KIND_LAST), 16) IS(DDS_KIND_VALUE(DDS_KIND_ENTIRE), 32)
+    IS(DDS_KIND_VALUE(DDS_KIND_SKIP), 64) IS(2 * DDS_KIND_VALUE(4 | 1), 32)
     IS(DDS_ROW_KIND, 0) IS(DDS_ROW_OFFSET, 4) IS(DDS_ROW_COUNT, 8)
     IS(DDS_KIND_TOTAL, 1) IS(DDS_KIND_SEPARATOR, 2) IS(DDS_KIND_MIDDLE, 3) IS(DDS_KIND_START, 4) IS(DDS_KIND_LAST, 5)
     IS(DDS_KIND_ENTIRE, 6) IS(DDS_KIND_SKIP, 7)
@@ -48,7 +53,7 @@ static const struct { const char *name; uint32_t found, wanted; } constants[] = 
     IS(DDS_THIRD_ROWS, 46) IS(DDS_THIRD_DATA_ROWS, 44) IS(DDS_OUTCOME_BROKEN, 1)
     IS(DDS_REFUSED_ROW_LENGTH, 40) IS(DDS_REFUSED_ROW, 41) IS(DDS_REFUSED_SAME_ROW, 42) IS(DDS_REFUSED_HOPELESS, 43)
     IS(DDS_REFUSED_ZERO_PART, 19) IS(DDS_REFUSED_ABOVE_ONE, 20) IS(DDS_REFUSED_TOO_LONG, 21) IS(DDS_REFUSED_TOTAL_DIFFERS, 22)
-    IS(DDS_REFUSED_OWED_EARLY, 23)
+    IS(DDS_REFUSED_OWED_EARLY, 23) IS(DDS_REFUSED_EXPLANATION, 24)
     IS(DDS_REFUSED_LENGTH, 30) IS(DDS_REFUSED_PARITY, 31) IS(DDS_REFUSED_SW1, 32) IS(DDS_REFUSED_SW2, 33)
     IS(DDS_REFUSED_CLOSE, 34)
     IS(DDS_VOLUME_LEN, 72) IS(DDS_FIELDS_LEN, 37) IS(DDS_ALERT_LEN, 8) IS(DDS_VOLUME_FIELDS, 3)
@@ -81,14 +86,18 @@ static void put(uint8_t *slice, uint32_t field, uint32_t number)
 static void reads_numbers(void)
 {
     static const uint8_t bytes[9] = { 0, 0x12, 0x34, 0x56, 0x78, 0xFF, 0xFE, 0xFD, 0xFC };
+    static const uint8_t eights[8] = { 0xFF, 0xFF, 0xFF, 0xFF, 0xFF, 0xFF, 0xFF, 0xFF };
     check(dds_number(bytes, 0) == 0x00123456, "dds_number at 0");
     check(dds_number(bytes, 1) == 0x12345678, "dds_number at 1");
     check(dds_number(bytes, 5) == 0xFFFEFDFC, "dds_number of a number above 2^31");
+    check(dds_long_number(bytes, 0) == ((uint64_t)0x00123456 << 32 | 0x78FFFEFD), "dds_long_number at 0");
+    check(dds_long_number(bytes, 1) == ((uint64_t)0x12345678 << 32 | 0xFFFEFDFC), "dds_long_number at 1");
+    check(dds_long_number(eights, 0) == ~(uint64_t)0, "dds_long_number of 2^64 - 1");
 }
 
 /* ---- What the library makes of the constants, in groups of 64 bytes */
 
-static uint8_t group[64], rows[DDS_ROWS_LEN(64) + DDS_ROW_LEN], answer[DDS_ANSWER_LEN];
+static uint8_t group[64], rows[DDS_ROWS_LEN(64) + DDS_ROW_LEN], answer[DDS_ANSWER_LEN], explanation[DDS_EXPLANATION_LEN];
 
 /* entry k, from 1 */
 static void entry(uint32_t k, uint32_t flag, uint32_t count) { put(group, 64 - 32 - 4 * k, flag << 24 | count); }
@@ -178,6 +187,40 @@ static void repeats_are_told(void)
           && dds_number(state, DDS_READER_ACCEPTED) == 1 && dds_number(state, DDS_STATE_NEXT) == 2, "it is a repeat");
 }
 
+/* a field of the explanation of reading group 1 of n entries, by the names of the header */
+static uint64_t field(uint32_t name) { return dds_long_number(explanation, name); }
+
+static uint32_t explains(const uint8_t *state, uint32_t n, size_t rows_len)
+{
+    return dds_explain(state, DDS_READER_LEN, group, 64, 1, n, rows, rows_len, explanation, DDS_EXPLANATION_LEN);
+}
+
+/* a last where no record is open, of seven bytes, and a separator at its place: each field is where its name says */
+static void reads_are_explained(void)
+{
+    uint8_t state[DDS_READER_LEN];
+    reader_at(state, DDS_PHASE_FREE, 0);
+    entry(1, DDS_FLAG_LAST, 7);
+    entry(2, DDS_FLAG_SKIP, 57);
+    check(explains(state, 2, sizeof rows) == DDS_REFUSED_FOLLOW && field(DDS_EXPLANATION_REFUSAL) == DDS_REFUSED_FOLLOW
+          && field(DDS_EXPLANATION_PLACE) == 1 && field(DDS_EXPLANATION_OFFSET) == 64 - DDS_INFORMATION_LEN - DDS_ENTRY_LEN
+          && field(DDS_EXPLANATION_FOUND) == DDS_KIND_LAST && field(DDS_EXPLANATION_LEAST) == 0
+          && field(DDS_EXPLANATION_GREATEST) == 0
+          && field(DDS_EXPLANATION_KINDS) == (DDS_KIND_VALUE(DDS_KIND_SEPARATOR) | DDS_KIND_VALUE(DDS_KIND_START)
+                                              | DDS_KIND_VALUE(DDS_KIND_ENTIRE)), "a kind that may not stand there");
+    entry(1, DDS_FLAG_SEPARATOR, 7);
+    check(explains(state, 2, sizeof rows) == DDS_REFUSED_ABOVE_ONE && field(DDS_EXPLANATION_FOUND) == 7
+          && field(DDS_EXPLANATION_LEAST) == DDS_SEPARATOR_1 && field(DDS_EXPLANATION_GREATEST) == DDS_SEPARATOR_2
+          && field(DDS_EXPLANATION_KINDS) == 0, "a separator above 1");
+    check(explains(state, 2, 2 * DDS_ROW_LEN - 1) == DDS_REFUSED_ROWS && field(DDS_EXPLANATION_PLACE) == 0
+          && field(DDS_EXPLANATION_FOUND) == 2 * DDS_ROW_LEN - 1 && field(DDS_EXPLANATION_LEAST) == 2 * DDS_ROW_LEN
+          && field(DDS_EXPLANATION_GREATEST) == ~(uint64_t)0, "too few rows");
+    check(reads(state, 2, sizeof rows) == DDS_REFUSED_ABOVE_ONE, "the read says the same");
+    entry(1, DDS_FLAG_SKIP, 64);
+    check(explains(state, 1, sizeof rows) == DDS_ACCEPTED && field(DDS_EXPLANATION_FOUND) == 0
+          && dds_number(state, DDS_STATE_NEXT) == 1, "accepted, and the state stays");
+}
+
 /* a part that fills its group, and both separators as they are laid */
 static void limits_of_writing(void)
 {
@@ -240,7 +283,7 @@ static void reads_what_it_takes(void)
     munmap(at, READABLE + DDS_RECORD_MOST + 1);
 }
 
-/* ---- Every call is there: refused by the answer's length, which is 0 */
+/* ---- Every call is there: refused by the answer's length, or the explanation's, which is 0 */
 
 static void prototypes_link(void)
 {
@@ -248,6 +291,7 @@ static void prototypes_link(void)
     check(dds_reader_start(64, 1, none, 0, none, 0) == 1, "dds_reader_start");
     check(dds_writer_start(64, 1, none, 0, none, 0) == 1, "dds_writer_start");
     check(dds_read(none, 0, none, 0, 1, 1, none, 0, none, 0) == 1, "dds_read");
+    check(dds_explain(none, 0, none, 0, 1, 1, none, 0, none, 0) == 24, "dds_explain");
     check(dds_record(none, 0, none, 0, none, 0, 0, none, 0) == 1, "dds_record");
     check(dds_separator(none, 0, none, 0, 0, 0, none, 0) == 1, "dds_separator");
     check(dds_end(none, 0, none, 0, 0, none, 0) == 1, "dds_end");
@@ -274,6 +318,7 @@ int main(void)
     flags_are_kinds();
     limits_of_reading();
     repeats_are_told();
+    reads_are_explained();
     limits_of_writing();
     packs_are_allowed();
     reads_what_it_takes();

@@ -1,6 +1,7 @@
 /* Readings 2, 4 to 6 and 8: slices and arguments of the calls on groups, beside what examples.c tries on every call. What a start
    is lent, a reader's state as it was before requests 2026-03 and 2026-05, warns without meaning, empty slices, row slices,
-   slices that a repeat does not touch, and lengths of 2^32 and more that no rule forbids outright. */
+   slices that a repeat does not touch, rows that an explanation does not, and lengths of 2^32 and more that no rule forbids
+   outright. */
 
 #define _DEFAULT_SOURCE
 #include "fence.h"
@@ -40,6 +41,8 @@ static void old_state(desk *s, const uint8_t *state, size_t len)
     refused_unwritten(s, "an old state: a read");
     reads(s, 6, 2);
     refused_unwritten(s, "an old state: a repeat");
+    explains(s, 7, 2);
+    explained(s, "an old state: explained", 1, 0, 0, 0, 0, 0, 0);
     reader_starts(s, 64, 7);
     refused_unwritten(s, "an old state: a start");
 }
@@ -95,17 +98,20 @@ static void empties(void)
     for (null = 0; null < 2; null++) {
         desk s;
         for (call = READER_START; call <= END; call++) {
-            s = call == READ ? lawful() : call == READER_START ? reader(64, 7, 0, 0) : writer(64, 7, 0, 0, 3, 1, 0, 0);
+            const int starts = call == READER_START || call == WRITER_START, reading = call == READ || call == EXPLAIN;
+            s = reading ? lawful() : call == READER_START ? reader(64, 7, 0, 0) : writer(64, 7, 0, 0, 3, 1, 0, 0);
             lend_none(&s.of[STATE], null);
-            lend_none(&s.of[ANSWER], null);
-            make(&s, call, call < READ ? 64 : call == READ ? 7 : 0, call < RECORD ? 2 : 0, 0);
-            refused_unwritten(&s, "reading 6: empty state and answer");
+            lend_none(&s.of[told_in(call)->which], null);
+            make(&s, call, starts ? 64 : reading ? 7 : 0, starts || reading ? 2 : 0, 0);
+            refused_unwritten(&s, "reading 6: empty state, and answer or explanation");
             leave(&s);
         }
         s = lawful();
         lend_none(&s.of[ROWS], null);
         reads(&s, 8, 2);
         refused(&s, "reading 6: empty rows, 5 first", 5, 0);
+        explains(&s, 7, 2);
+        explained(&s, "reading 6: empty rows, explained", 7, 0, 0, 0, 24, UINT64_MAX, 0);
         reads(&s, 7, 0);
         refused(&s, "reading 6: empty rows, 6 first", 6, 0);
         s.of[GROUP].at[28] = 0x43;
@@ -114,6 +120,8 @@ static void empties(void)
         put(s.of[STATE].at + DDS_READER_ACCEPTED, 1);
         reads(&s, 6, 2);
         repeated(&s, "reading 6: empty rows at a repeat");
+        explains(&s, 6, 2);
+        explained(&s, "reading 6: empty rows at a repeat, explained", 0, 0, 0, 0, 0, 0, 0);
         leave(&s);
         s = writer(64, 7, 0, 0, 3, 1, 0, 0);
         lend_none(&s.of[DATA], null);
@@ -175,9 +183,27 @@ static void untouched_repeat(uint8_t *promised, size_t len)
     s.of[ROWS] = lend_promised(promised + 64, len);
     reads(&s, 7, 2);
     repeated(&s, "request 2026-05: a repeat in forbidden pages");
+    explains(&s, 7, 2);
+    explained(&s, "request 2026-07: a repeat in forbidden pages", 0, 0, 0, 0, 0, 0, 0);
     s.of[GROUP].len = len;
     reads(&s, 7, 2);
     refused(&s, "request 2026-05: of another length", 4, 0);
+    explains(&s, 7, 2);
+    explained(&s, "request 2026-07: of another length, found whole", 4, 0, 0, len, 64, 64, 0);
+    leave(&s);
+}
+
+/* request 2026-07: rows are lent for their length alone, which is not cut */
+static void unread_rows(uint8_t *promised, size_t len)
+{
+    desk s = lawful();
+    give_back(&s.of[ROWS]);
+    s.of[ROWS] = lend_promised(promised, len);
+    explains(&s, 7, 2);
+    explained(&s, "request 2026-07: long rows in forbidden pages are enough", 0, 0, 0, 0, 0, 0, 0);
+    s.of[ROWS].len = 23;
+    explains(&s, 7, 2);
+    explained(&s, "request 2026-07: 23 bytes in forbidden pages", 7, 0, 0, 23, 24, UINT64_MAX, 0);
     leave(&s);
 }
 
@@ -189,6 +215,7 @@ static void long_slices(void)
     for (i = 0; i < sizeof more / sizeof *more; i++) {
         if (data) long_data(data, wide + more[i]);
         if (data) untouched_repeat(data, wide + more[i]);
+        if (data) unread_rows(data, wide + more[i]);
         if (rows) long_rows(rows, wide + more[i]);
     }
 }

@@ -1,6 +1,6 @@
 /* Readings 5 and 9 to 12, and request 2026-05: which states are sound. A sound state lent with an empty group is refused 4 and
-   another one 1, so that each condition is tried on both sides of each of its bounds; then states that no run reaches are
-   served. */
+   another one 1, by a read and by its explanation too, so that each condition is tried on both sides of each of its bounds; then
+   states that no run reaches are served. */
 
 #include "groups.h"
 
@@ -13,6 +13,8 @@ static void try_reader(uint32_t sound, uint32_t size, uint32_t next, uint32_t ph
     relend(&s.of[GROUP], 0);
     reads(&s, next, 1);
     refused(&s, name, sound ? 4 : 1, 0);
+    explains(&s, next, 1);
+    if (sound) explained(&s, name, 4, 0, 0, 0, size, size, 0); else explained(&s, name, 1, 0, 0, 0, 0, 0, 0);
     leave(&s);
 }
 

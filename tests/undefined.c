@@ -1,7 +1,7 @@
 /* For valgrind: no call may decide by bytes that it has no business with. Each worked example is made with memory that was never
-   written where its text has bytes LENT: states at a start, answers, groups but their tables, rows, items, whatever is to be made
-   or filled. Then whole runs are written and read back from such memory, each group followed by a repeat that was never written.
-   Without valgrind it shows only that the calls do their work. */
+   written where its text has bytes LENT: states at a start, answers, explanations, groups but their tables, rows, items, whatever
+   is to be made or filled. Then whole runs are written and read back from such memory, each group followed by a repeat that was
+   never written, and each read explained. Without valgrind it shows only that the calls do their work. */
 
 #include "examples.h"
 
@@ -25,11 +25,11 @@ static void free_all(span *lent)
     for (i = 0; i < SLICES; i++) free(lent[i].at);
 }
 
-/* the call, over an answer that was never written */
+/* the call, over an answer or an explanation that was never written */
 static void returns(uint32_t wanted, span *lent, int call, uint32_t a, uint32_t b, uint32_t c)
 {
     const uint32_t numbers[MOST_NUMBERS] = { a, b, c };
-    lend_unwritten(&lent[ANSWER], DDS_ANSWER_LEN);
+    lend_unwritten(&lent[told_in(call)->which], told_in(call)->length);
     check(calls[call].library(numbers, lent) == wanted, calls[call].name, wanted ? "refused" : "accepted");
 }
 
@@ -55,7 +55,7 @@ static void by_example(const example *e)
     size_t i;
     lend_business(e, &w, lent);
     if (e->refusal) returns(e->refusal, lent, e->call, wrong[0], wrong[1], wrong[2]);
-    returns(get(w.after[ANSWER]), lent, e->call, n[0], n[1], n[2]);
+    returns(told_after(e, &w), lent, e->call, n[0], n[1], n[2]);
     for (s = calls[e->call].slices; s->which; s++)
         for (i = 0; i < w.len[s->which]; i++)
             if (w.after[s->which][i] != LENT) check(lent[s->which].at[i] == w.after[s->which][i], calls[e->call].name, "bytes");
@@ -69,6 +69,7 @@ static void by_example(const example *e)
 static void read_again(span *reading, uint32_t number)
 {
     lend_unwritten(&reading[GROUP], reading[GROUP].len);
+    returns(0, reading, EXPLAIN, number, 0, 0);
     returns(0, reading, READ, number, 0, 0);
     check(get(reading[ANSWER].at + DDS_ANSWER_OUTCOME) == DDS_OUTCOME_REPEAT, calls[READ].name, "a repeat");
 }
@@ -84,6 +85,9 @@ static int read_closed(span *writing, span *reading)
     writing[GROUP].at = unwritten(writing[GROUP].len);
     lend_unwritten(&reading[ROWS], DDS_ROW_LEN * (size_t)entries);
     returns(DDS_REFUSED_NUMBER, reading, READ, number + 1, entries, 0);
+    returns(DDS_REFUSED_NUMBER, reading, EXPLAIN, number + 1, entries, 0);
+    check(get_long(reading[EXPLANATION].at + DDS_EXPLANATION_FOUND) == number + 1, calls[EXPLAIN].name, "found");
+    returns(0, reading, EXPLAIN, number, entries, 0);
     returns(0, reading, READ, number, entries, 0);
     read_again(reading, number);
     return 1;

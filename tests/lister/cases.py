@@ -8,10 +8,11 @@ Where it is too long to write out (`MODEL`), the model gives it. The lister give
 import os
 import sys
 
-sys.dont_write_bytecode = True
-import model
-
 HERE = os.path.dirname(os.path.abspath(__file__))
+sys.dont_write_bytecode = True
+sys.path.insert(0, os.path.dirname(HERE))
+from lister import model
+
 MODEL = None
 CASES = {}
 
@@ -707,6 +708,7 @@ case('refused-10-middle-after-a-start', run([start(5), separator(0), skip(59)]),
 case('refused-10-middle-second-start', run([start(5), start(5), skip(54)]), 'refused 10 at 2')
 case('refused-10-last-entire', run([entire(5), entire(5)]), 'refused 10 at 2')
 case('refused-10-last-start', run([entire(5), start(5)]), 'refused 10 at 2')
+case('refused-10-last-after-a-start', run([start(5), entire(5)]), 'refused 10 at 2')
 case('refused-10-lone-entire', run([entire(5)]), 'refused 10 at 1')
 
 case('refused-10-inside-lone-skip', run(OPEN, [skip(64)]), '''
@@ -768,6 +770,12 @@ case('refused-10-last-last', run(OPEN, [last(1)]), '''
     start 0 24
     skip 24 40
     refused 10 at 1''')
+
+case('refused-10-last-total', run(OPEN, [last(1), total(25)]), '''
+    group 1 entries 2
+    start 0 24
+    skip 24 40
+    refused 10 at 2''')
 
 case('refused-10-not-19', run([last(0), total(0), skip(64)]), 'refused 10 at 1')
 case('refused-10-not-13', run([entire(5), skip(7), skip(59)]), 'refused 10 at 2')
@@ -870,6 +878,7 @@ case('refused-13-total-counted-as-data', run(OPEN, [last(1), total(25), skip(38)
     refused 13 at 3''')
 case('refused-13-own-bytes-forgotten', run([entire(20), separator(0), skip(12)]), 'refused 13 at 3')
 case('refused-13-zero', run([entire(1), separator(0), separator(0), skip(0)]), 'refused 13 at 4')
+case('refused-13-at-byte-0', run([separator(0)] * 7 + [skip(63)]), 'refused 13 at 8')
 case('refused-13-in-the-last-group', run(A, [entire(20), skip(43)]), '''
     group 1 entries 3
     entire 0 20
@@ -965,6 +974,10 @@ case('refused-after-a-repeat', head([(1, 1), (1, 1), (2, 1)]) + image([skip(64)]
     skip 0 64
     repeat 1
     refused 13 at 1''')
+case('refused-after-a-thousand-repeats', head([(1, 1)] * 1023 + [(2, 1)]) + image([skip(64)]) * 1023 + image([skip(63)]), '''
+    group 1 entries 1
+    skip 0 64
+    ''' + 'repeat 1\n' * 1022 + 'refused 13 at 1')
 
 
 # ---- Bad run files ---------------------------------------------------------------------------------------------------

@@ -1,15 +1,16 @@
-"""Running the lister: on a whole input, on one that is fed no further than each piece of text needs, and where a write fails."""
+"""Running a program of the bench, the lister or the explainer: on a whole input, on one that is fed no further than each piece of
+text needs, and where a write fails. What is due is what the model that is handed in says: `listing` and `moments`."""
 import fcntl
 import os
 import platform
 import select
 import shutil
+import socket
 import struct
 import subprocess
+import tempfile
 import termios
 import time
-
-import model
 
 PATIENCE = 20.0
 
@@ -25,15 +26,46 @@ def command(program):
     return [os.path.join(tools, 'bin', 'qemu-x86_64'), loader, '--library-path', os.path.join(tools, 'lib'), program]
 
 
-def whole(lister, data):
-    """What is wrong with what the lister prints of this input, or None."""
+def ran(words, out, **given):
+    """What is wrong with how the program ends on what it is given, or None; and what it printed, where `out` is a pipe."""
     try:
-        done = subprocess.run(lister, input=data, stdout=subprocess.PIPE, timeout=3 * PATIENCE)
+        done = subprocess.run(words, stdout=out, timeout=3 * PATIENCE, **given)
     except subprocess.TimeoutExpired:
-        return 'it does not end'
-    if done.returncode < 0:
-        return f'it died by signal {-done.returncode}'
-    return differ(model.listing(data), done.stdout)
+        return 'it does not end', b''
+    return f'it died by signal {-done.returncode}' if done.returncode < 0 else None, done.stdout
+
+
+def whole(words, model, data):
+    """What is wrong with what the program prints of this input, or None."""
+    wrong, got = ran(words, subprocess.PIPE, input=data)
+    return wrong or differ(model.listing(data), got)
+
+
+def at_once(words, model, data):
+    """The same, where all of it must come in one write, and no more be read than it needs. The input is a file, which keeps how
+    far it was read; the output is a socket of messages, which keeps one write from the next."""
+    theirs, ours = socket.socketpair(socket.AF_UNIX, socket.SOCK_SEQPACKET)
+    with theirs, ours, tempfile.TemporaryFile(buffering=0) as file:
+        file.write(data)
+        file.seek(0)
+        wrong, _ = ran(words, ours, stdin=file)
+        ours.close()
+        writes = list(iter(lambda: theirs.recv(65536), b''))
+        read = file.tell()
+    wrong = wrong or differ(model.listing(data), b''.join(writes))
+    if wrong:
+        return wrong
+    if len(writes) != 1:
+        return f'it comes in {len(writes)} writes'
+    taken = model.moments(data)[-1][0]
+    return None if read == taken else f'{read} bytes of input were read, and {taken} are needed'
+
+
+def unwritten(words, data):
+    """What is wrong with how the program ends where nothing can be written, or None."""
+    with open('/dev/full', 'wb') as full:
+        wrong, _ = ran(words, full, input=data)
+    return wrong and 'where nothing can be written, ' + wrong
 
 
 def differ(due, got):
@@ -43,17 +75,17 @@ def differ(due, got):
     return f'at byte {at}: due {due[at:at + 60]!r}, printed {got[at:at + 60]!r}'
 
 
-def at_each_moment(lister, data, drip=False):
+def at_each_moment(words, model, data, drip=False):
     """The same, where each piece of text must come while the input stays open, and nothing after the last."""
-    with subprocess.Popen(lister, stdin=subprocess.PIPE, stdout=subprocess.PIPE, bufsize=0) as p:
+    with subprocess.Popen(words, stdin=subprocess.PIPE, stdout=subprocess.PIPE, bufsize=0) as p:
         try:
-            return fed(p, data, drip)
+            return fed(p, model, data, drip)
         finally:
             if p.poll() is None:
                 p.kill()
 
 
-def fed(p, data, drip):
+def fed(p, model, data, drip):
     sent = 0
     for taken, ended, text in model.moments(data):
         feed(p, data[sent:taken], drip)
@@ -74,7 +106,7 @@ def fed(p, data, drip):
 
 
 def feed(p, data, drip):
-    """All of data, or as much as a lister that stops early takes; in drips, so that single reads come up short."""
+    """All of data, or as much as a program that stops early takes; in drips, so that single reads come up short."""
     try:
         for i in range(0, len(data), 1 if drip else max(1, len(data))):
             p.stdin.write(data[i:i + 1] if drip else data)
@@ -98,13 +130,13 @@ def printed(p, n):
     return got
 
 
-def cut_off(lister, data):
+def cut_off(words, model, data):
     """What is wrong with what it prints where a write fails for a while, or None: it must be a beginning of what is due."""
     theirs, ours = os.pipe()
     room = fcntl.fcntl(ours, fcntl.F_SETPIPE_SZ, 4096)
     os.set_blocking(ours, False)
     due = model.listing(data)
-    with subprocess.Popen(lister, stdin=subprocess.PIPE, stdout=ours, bufsize=0) as p:
+    with subprocess.Popen(words, stdin=subprocess.PIPE, stdout=ours, bufsize=0) as p:
         os.close(ours)
         try:
             sent = told = 0

@@ -22,10 +22,11 @@ use Rattle.counts.specs.Counts.{isAmong, holdsData, tooLong}
 use Rattle.entry.specs.declared.Stand.{Stand}
 use Rattle.entry.specs.declared.Stand.the-variants.{Free, AfterPart, Inside, AfterLast, Owed}
 use Rattle.entry.specs.Rules.{mayFollow, isSkip, b4Kept, followKept, reachedAfter, mayOwe}
+use Rattle.reasons.specs.declared.Reason.{Reason}
 use Rattle.reasons.specs.Rules.{Rule, Stop, keeps, kindKeeps}
 use Rattle.reasons.specs.Rules.Rule.{flagKnown, b4Stays, kindFollows, partNotEmpty, separatorValue, recordLength, totalSum, dataWithin, skipCount, totalInTime}
 use Rattle.reasons.specs.Reasons.{reason, b4Found, leaves, permitted, reasonAt}
-use Rattle.reasons.specs.Truth.{isPermitted, BrokenBy, AllowedBy}
+use Rattle.reasons.specs.Truth.{allowed, isPermitted, BrokenBy, AllowedBy}
 
 -- Two tests that follow from each other are the same; and a number that is not between two.
 pub same-test : (a b : Bool) → (a ≡ true → b ≡ true) → (b ≡ true → a ≡ true) → a ≡ b
@@ -135,6 +136,13 @@ early Inside count x e = absurd (true≢false e)
 early AfterLast count x e = refl
 early Owed count x e = absurd (true≢false e)
 
+-- The same of the numbers of a reason.
+beyond : (r : Reason) → (r .least ≤ r .found → r .found ≤ r .greatest → ⊥) → allowed r (r .found) ≡ false
+beyond r h = outside (r .least) (r .found) (r .greatest) h
+
+inside-of : (r : Reason) (x : ℕ) → allowed r x ≡ true → (r .least ≤ x) × (x ≤ r .greatest)
+inside-of r x i = within (r .least) x (r .greatest) i
+
 -- "the rule is broken there by those numbers"
 module _ (at : Stop) (e : Entry) where
   broken-known : (rule : Rule) (k : Kind) (w : Bool) → meaningOf (e .flag) ≡ Known k w → kindKeeps rule at k w (e .count) ≡ false → BrokenBy rule (reasonAt rule at e)
@@ -143,28 +151,28 @@ module _ (at : Stop) (e : Entry) where
   broken-known kindFollows k w m h = rw m (permitted-is (at .here .stand) (at .last) (kindNumber k) k ∙ h)
   broken-known partNotEmpty k w m h =
       let f = leb-false 1 (e .count) (broken-of (holdsData k) _ (sym (choice (holdsData k) _) ∙ h) .1) in
-      outside 1 (e .count) longestRecord (λ a b. omega arith)
+      beyond (reasonAt partNotEmpty at e) (λ a b. omega arith)
   broken-known separatorValue k w m h =
       let one = isAmong k (Separator ∷ []) in
       let f = leb-false (e .count) 1 (broken-of one _ (sym (choice one (leb (e .count) 1)) ∙ h) .1) in
-      outside 0 (e .count) 1 (λ a b. omega arith)
+      beyond (reasonAt separatorValue at e) (λ a b. omega arith)
   broken-known recordLength k w m h =
       rw m (outside 1 (e .count) (leaves k (at .here .sum)) (λ a b. true≢false (sym (not-false _ h) ∙ fits k (at .here .sum) (e .count) a b)))
   broken-known totalSum k w m h =
       let total = isAmong k (Total ∷ []) in
       let f = eqb-false (e .count) (at .here .sum) (broken-of total _ (sym (choice total (eqb (e .count) (at .here .sum))) ∙ h) .1) in
-      outside (at .here .sum) (e .count) (at .here .sum) (λ a b. f (omega arith))
+      beyond (reasonAt totalSum at e) (λ a b. f (omega arith))
   broken-known dataWithin k w m h =
       let f = leb-false (reachedAfter k (at .here .reached) (e .count)) (at .limit) h in
       let g = reaches (holdsData k) (at .here .reached) (e .count) in
-      outside 0 (at .here .reached + e .count) (at .limit) (λ a b. omega arith)
+      beyond (reasonAt dataWithin at e) (λ a b. omega arith)
   broken-known skipCount k w m h =
       let f = eqb-false (e .count) (at .size - at .here .reached) (broken-of (isSkip k) _ h .1) in
-      outside (at .size - at .here .reached) (e .count) (at .size - at .here .reached) (λ a b. f (omega arith))
+      beyond (reasonAt skipCount at e) (λ a b. f (omega arith))
   broken-known totalInTime k w m h =
       let d = broken-of (isSkip k) _ h .1 in
       let f = leb-false (e .count) mostOwing (sym (early (at .here .stand) (e .count) (e .count) d) ∙ d) in
-      outside 0 (e .count) mostOwing (λ a b. omega arith)
+      beyond (reasonAt totalInTime at e) (λ a b. omega arith)
 
   pub broken-by : (rule : Rule) → keeps rule at (meaningOf (e .flag)) (e .count) ≡ false → BrokenBy rule (reasonAt rule at e)
   broken-by rule h = by (meaningOf (e .flag)) refl h
@@ -192,13 +200,13 @@ module _ (at : Stop) (e : Entry) where
   allowed-known kindFollows k w m h = λ j. permitted-is (at .here .stand) (at .last) 0 j
   allowed-known partNotEmpty k w m h =
       record {
-        inside = λ x i. choice (holdsData k) (leb 1 x) ∙ keeps-of (holdsData k) (leb 1 x) (le-leb 1 x (within 1 x longestRecord i .0));
+        inside = λ x i. choice (holdsData k) (leb 1 x) ∙ keeps-of (holdsData k) (leb 1 x) (le-leb 1 x (inside-of (reasonAt partNotEmpty at e) x i .0));
         no-other = λ x a b i. is-within a b;
       }
   allowed-known separatorValue k w m h =
       let one = isAmong k (Separator ∷ []) in
       record {
-        inside = λ x i. choice one (leb x 1) ∙ keeps-of one (leb x 1) (le-leb x 1 (within 0 x 1 i .1));
+        inside = λ x i. let b = inside-of (reasonAt separatorValue at e) x i in choice one (leb x 1) ∙ keeps-of one (leb x 1) (le-leb x 1 (omega arith));
         no-other = λ x a b i. is-within {low = 0} {n = x} {high = 1} (omega arith) (leb-true x 1 (kept-of one _ (broken-of one _ (sym (choice one (leb (e .count) 1)) ∙ h) .0) (sym (choice one (leb x 1)) ∙ i)));
       }
   allowed-known recordLength k w m h =
@@ -210,13 +218,13 @@ module _ (at : Stop) (e : Entry) where
       let total = isAmong k (Total ∷ []) in
       let sum = at .here .sum in
       record {
-        inside = λ x i. let b = within sum x sum i in choice total (eqb x sum) ∙ keeps-of total (eqb x sum) (eq-eqb x sum (omega arith));
+        inside = λ x i. let b = inside-of (reasonAt totalSum at e) x i in choice total (eqb x sum) ∙ keeps-of total (eqb x sum) (eq-eqb x sum (omega arith));
         no-other = λ x a b i. let j = eqb-true x sum (kept-of total _ (broken-of total _ (sym (choice total (eqb (e .count) sum)) ∙ h) .0) (sym (choice total (eqb x sum)) ∙ i)) in is-within {low = sum} {n = x} {high = sum} (omega arith) (omega arith);
       }
   allowed-known dataWithin k w m h =
       record {
         inside = λ x i.
-            let b = within 0 (at .here .reached + x) (at .limit) i in
+            let b = inside-of (reasonAt dataWithin at e) (at .here .reached + x) i in
             let g = reaches (holdsData k) (at .here .reached) x in
             le-leb (reachedAfter k (at .here .reached) x) (at .limit) (omega arith);
         no-other = λ x a b i. is-within {low = 0} {n = at .here .reached + x} {high = at .limit} (omega arith) (reaches-all (holdsData k) (at .here .reached) (e .count) x (at .limit) h i);
@@ -224,13 +232,13 @@ module _ (at : Stop) (e : Entry) where
   allowed-known skipCount k w m h =
       let rest = at .size - at .here .reached in
       record {
-        inside = λ x i. let b = within rest x rest i in keeps-of (isSkip k) (eqb x rest) (eq-eqb x rest (omega arith));
+        inside = λ x i. let b = inside-of (reasonAt skipCount at e) x i in keeps-of (isSkip k) (eqb x rest) (eq-eqb x rest (omega arith));
         no-other = λ x a b i. let j = eqb-true x rest (kept-of (isSkip k) _ (broken-of (isSkip k) _ h .0) i) in is-within {low = rest} {n = x} {high = rest} (omega arith) (omega arith);
       }
   allowed-known totalInTime k w m h =
       let d = broken-of (isSkip k) _ h in
       record {
-        inside = λ x i. keeps-of (isSkip k) _ (early (at .here .stand) (e .count) x (d .1) ∙ le-leb x mostOwing (within 0 x mostOwing i .1));
+        inside = λ x i. keeps-of (isSkip k) _ (early (at .here .stand) (e .count) x (d .1) ∙ le-leb x mostOwing (inside-of (reasonAt totalInTime at e) x i .1));
         no-other = λ x a b i. is-within {low = 0} {n = x} {high = mostOwing} (omega arith) (leb-true x mostOwing (sym (early (at .here .stand) (e .count) x (d .1)) ∙ kept-of (isSkip k) _ (d .0) i));
       }
 

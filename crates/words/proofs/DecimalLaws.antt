@@ -1,4 +1,4 @@
--- The digits that `io::decimal` puts are `decimal`'s, and at most ten for a number of 32 bits.
+-- The digits that `io::decimal` puts are `decimal`'s, at most twenty for a number of 64 bits and ten for one of 32.
 -- Assumes nothing.
 use Prim.Native.Nat.{ℕ, zero, suc, _+_, _-_, _*_, _/_, _%_, _^_, _≤_, _<_}
 use mathlib.Core.Path.{_≡_, refl, sym, _∙_}
@@ -17,17 +17,17 @@ pub length-digits : (k n : ℕ) → length (digits 10 k n) ≡ k
 length-digits zero n = refl
 length-digits (suc k) n = simp length-append (omega (arith, length-digits k (n / 10)))
 
--- A number of 32 bits has at most ten digits.
-pub at-most-ten : (n k : ℕ) → n < 4294967296 → Fewest 10 1 n k → k ≤ 10
-at-most-ten n k h f = by (ltb 10 k) refl
+-- A number below a power of ten has at most so many digits.
+pub at-most : (most n k : ℕ) → 1 ≤ most → n < 10 ^ most → Fewest 10 1 n k → k ≤ most
+at-most most n k one h f = by (ltb most k) refl
   where
-    by : (b : Bool) → ltb 10 k ≡ b → k ≤ 10
-    by false e = omega (arith, ltb-false 10 k e)
+    by : (b : Bool) → ltb most k ≡ b → k ≤ most
+    by false e = omega (arith, ltb-false most k e)
     by true e =
-        let long = ltb-true 10 k e in
+        let long = ltb-true most k e in
         let low = f .2 (omega (arith, long)) in
-        let most : 10 ^ 10 ≤ 10 ^ (k - 1) = pow-le-pow-right (omega arith) {i = 10} {j = k - 1} (omega (arith, long)) in
-        absurd (omega (arith, low, most))
+        let powers : 10 ^ most ≤ 10 ^ (k - 1) = pow-le-pow-right (omega arith) {i = most} {j = k - 1} (omega (arith, long)) in
+        absurd (omega (arith, low, powers))
 
 digit : (d : ℕ) → d < 10 → glyph d ≡ 48 + d
 digit d h = rw (lt-ltb d 10 h)
@@ -65,7 +65,7 @@ decimal-in (suc most) (suc zero) n h f = one-digit n (omega (arith, f .1)) ∙ s
 decimal-in (suc most) (suc (suc j)) n h f =
     rw (decimal-in most (suc j) (n / 10) (omega arith) (tenth j n f), last-digit most n (more-digits j n f), digit (n % 10) (mod-lt n (omega arith)))
 
--- The fewest digits that hold a number of 32 bits are its decimal text.
-pub decimal-fewest : (n k : ℕ) → n < 4294967296 → Fewest 10 1 n k → digits 10 k n ≡ decimal n
+-- The fewest digits that hold a number of at most twenty are its decimal text.
+pub decimal-fewest : (n k : ℕ) → k ≤ 20 → Fewest 10 1 n k → digits 10 k n ≡ decimal n
 unfolding decimal
-decimal-fewest n k h f = decimal-in 10 k n (at-most-ten n k h f) f
+decimal-fewest n k h f = decimal-in 20 k n h f

@@ -20,9 +20,9 @@ unfoldable pub decimalIn : ℕ → ℕ → List ℕ
 decimalIn zero n = []
 decimalIn (suc most) n = cond (ltb n 10) ((48 + n) ∷ []) (decimalIn most (n / 10) ++ ((48 + n % 10) ∷ []))
 
--- Ten digits are enough for a number of 32 bits.
+-- Twenty digits are enough for a number of 64 bits.
 unfoldable pub decimal : ℕ → List ℕ
-decimal n = decimalIn 10 n
+decimal n = decimalIn 20 n
 
 -- A space and a number.
 unfoldable pub field : ℕ → List ℕ

@@ -27,7 +27,16 @@ pub fn add_byte(text: &mut [u8], at: usize, byte: u8) -> usize
     at + 1
 }
 
-// A number in decimal.
+// A number in decimal: of 64 bits, which has at most twenty digits, and of 32 bits, which has at most ten.
+pub fn add_long(text: &mut [u8], at: usize, n: u64) -> usize
+    requires { ⌜ at + 20 ≤ length (now text) ⌝ }
+    ensures { λ r. ⌜ Added 20 (now (text .entry)) at (decimal n) (now (text .exit)) r ⌝ }
+{
+    let mut digits = [0u8; 20];
+    let k = io::decimal(n, &mut digits);
+    add(text, at, &digits[..k])
+}
+
 pub fn add_number(text: &mut [u8], at: usize, n: u32) -> usize
     requires { ⌜ at + 10 ≤ length (now text) ⌝ }
     ensures { λ r. ⌜ Added 10 (now (text .entry)) at (decimal n) (now (text .exit)) r ⌝ }

@@ -4,12 +4,12 @@ use Prim.Native.Nat.{_≤_}
 use mathlib.Core.Path.{_∙_}
 use native.Mathlib.Omega.{arith}
 use Rattle.words.proofs.AddedLaws.{added-as}
-use Rattle.words.proofs.DecimalLaws.{at-most-ten, decimal-fewest}
+use Rattle.words.proofs.DecimalLaws.{at-most, decimal-fewest}
 use Rattle.words.proofs.add_number.Statement.{statement}
 use Rattle.words.proofs.add_number.Tie as tie
 
 ten : (c : tie.After-decimal) → c .decimal .result ≤ 10
-ten c = at-most-ten _ _ (c .before .before .before .fits .n .fits) (c .decimal .ensures .1 .0)
+ten c = at-most 10 _ _ (omega arith) (omega (arith, c .before .before .before .fits .n .fits)) (c .decimal .ensures .1 .0)
 
 pub add-number-spec : {M : Type 1} → statement M
 add-number-spec =
@@ -20,4 +20,4 @@ add-number-spec =
     (λ c. search needs)
     (λ c κs. omega (arith, ten (c .before .before), c .before .before .decimal .ensures .0 .1, c .before .before .before .before .before .pre))
     (λ c. search needs)
-    (λ c. let d = c .before .before .before .before .before in added-as (d .decimal .ensures .1 .1 ∙ decimal-fewest _ _ (d .before .before .before .fits .n .fits) (d .decimal .ensures .1 .0)) (omega (arith, ten d, d .decimal .ensures .0 .1)) (c .before .before .add .ensures)))
+    (λ c. let d = c .before .before .before .before .before in added-as (d .decimal .ensures .1 .1 ∙ decimal-fewest _ _ (omega (arith, ten d)) (d .decimal .ensures .1 .0)) (omega (arith, ten d, d .decimal .ensures .0 .1)) (c .before .before .add .ensures)))
