@@ -1,8 +1,6 @@
 // The bench program: reads a run from standard input and prints what its groups hold. Document 01, "Bench program". What the
 // sections say, and what is printed at each step, are proved in `sections` and `telling`; here the input is read and the text written.
-mod input;
 mod listing;
-mod output;
 
 use sections::Sections;
 
@@ -11,9 +9,9 @@ const SECTIONS_LENGTH: usize = 4112;
 
 fn main() {
     let mut bytes = [0u8; SECTIONS_LENGTH];
-    match input::read_sections(&mut bytes) {
+    match runfile::input::read_sections(&mut bytes) {
         Sections::Whole { size, groups } => listing::list_run(size, groups, &bytes),
-        Sections::Next(_) => listing::list_bad(),
-        Sections::Bad => listing::list_bad(),
+        Sections::Next(_) => runfile::say_bad(),
+        Sections::Bad => runfile::say_bad(),
     }
 }

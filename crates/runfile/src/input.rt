@@ -7,7 +7,7 @@ ghost use lib.ListN.{length};
 ghost use Rattle.sections.specs.Sections.{longestSections, Within};
 
 // Fills all of `bytes` from the input, and no more is taken from it. False where the input ends before.
-pub(crate) fn read_whole(bytes: &mut [u8]) -> bool {
+pub fn read_whole(bytes: &mut [u8]) -> bool {
     io::read_full(STDIN_FILENO, bytes) == bytes.len()
 }
 
@@ -19,7 +19,7 @@ fn read_part(bytes: &mut [u8], from: usize, to: usize) -> bool
 }
 
 // Reads section after section as far as they are in range, and says what they are where that ends.
-pub(crate) fn read_sections(bytes: &mut [u8]) -> Sections
+pub fn read_sections(bytes: &mut [u8]) -> Sections
     requires { ⌜ longestSections ≤ length (now bytes) ⌝ }
     ensures { λ r. ⌜ Within (now (bytes .exit)) r ⌝ }
 {

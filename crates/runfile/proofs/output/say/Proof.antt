@@ -2,8 +2,8 @@
 use borrow.Author.Needs.{needs}
 use mathlib.Core.Path.{sym}
 use lib.Seq.{length-take-le}
-use Rattle.lister.proofs.output.say.Statement.{statement}
-use Rattle.lister.proofs.output.say.Tie as tie
+use Rattle.runfile.proofs.output.say.Statement.{statement}
+use Rattle.runfile.proofs.output.say.Tie as tie
 
 pub say-spec : {M : Type 1} → statement M
 say-spec =

@@ -7,8 +7,8 @@ use lib.ListN.{length, take}
 use lib.Seq.{length-take-le}
 use Rattle.sections.specs.Sections.{longestSections}
 use Rattle.sections.proofs.SectionLaws.{next-ahead, whole-in-range}
-use Rattle.lister.proofs.input.read_sections.Statement.{statement}
-use Rattle.lister.proofs.input.read_sections.Tie as tie
+use Rattle.runfile.proofs.input.read_sections.Statement.{statement}
+use Rattle.runfile.proofs.input.read_sections.Tie as tie
 
 abbrev Inv-loop : tie.InvT-loop
 Inv-loop bytes₀ have₀ bytes have = (have ≤ longestSections) × (length bytes ≡ length bytes₀)
