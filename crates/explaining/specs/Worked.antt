@@ -1,0 +1,3 @@
+-- An explained run, worked out by hand.
+-- Assumes nothing.
+use Prim.Native.Nat.{ℕ}
