@@ -1,10 +1,11 @@
 -- Change request 2026-07, the explaining tool "beside the lister": the two lines that it prints after a refusal, as ASCII codes. The words
 -- are written as they are printed.
 -- Assumes nothing.
-use Prim.Native.Nat.{ℕ}
+use Prim.Native.Nat.{ℕ, _+_}
 use mathlib.Core.List.{List, [], _∷_, _++_}
 use mathlib.Core.Bool.{cond}
 use lib.Dec.{eqb, leb}
+use lib.ListN.{length}
 use Rattle.group.specs.declared.Kind.{Kind}
 use Rattle.group.specs.Flags.{kindNumber, kinds}
 use Rattle.words.specs.Words.{ascii, decimal, labelled, newline, kindName}
@@ -38,6 +39,14 @@ wrongAmong (w ∷ ws) refusal = cond (eqb refusal (w .0)) (w .1) (wrongAmong ws 
 
 unfoldable pub wrong : (refusal : ℕ) → List ℕ
 wrong refusal = wrongAmong wrongs refusal
+
+-- Serves a contract: where the words of a refusal begin among all of them, one after the other.
+abbrev pub fromAmong : List (ℕ × List ℕ) → (refusal : ℕ) → ℕ
+fromAmong [] refusal = 0
+fromAmong (w ∷ ws) refusal = cond (eqb refusal (w .0)) 0 (length (w .1) + fromAmong ws refusal)
+
+unfoldable pub wordsFrom : (refusal : ℕ) → ℕ
+wordsFrom refusal = fromAmong wrongs refusal
 
 -- The entry's byte in its group, where there is an entry.
 unfoldable pub byteOf : Explanation → List ℕ

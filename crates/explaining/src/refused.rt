@@ -1,13 +1,14 @@
 // The lines of a refusal, added to a text one after the other. Each function answers where what it added ends, and has a `requires` for
 // the room that it needs at most.
 ghost use Prim.Native.Nat.{_+_, _≤_};
+ghost use mathlib.Core.Path.{_≡_};
 ghost use mathlib.Core.Bool.{cond};
 ghost use mathlib.Core.List.{[], _++_};
 ghost use lib.Dec.{eqb};
 ghost use lib.ListN.{length};
 ghost use Rattle.words.specs.Added.{Added};
 ghost use Rattle.words.specs.Words.{ascii, kindName};
-ghost use Rattle.explaining.specs.Lines.{wrong, byteOf, whereLine, limits, permittedNames, foundWords, foundLine, refusedLines};
+ghost use Rattle.explaining.specs.Lines.{wrong, wordsFrom, byteOf, whereLine, limits, permittedNames, foundWords, foundLine, refusedLines};
 use explain::Explanation;
 use reasons::Reason;
 use words::add;
@@ -16,27 +17,59 @@ use words::add_kind;
 use words::add_labelled;
 use words::add_long;
 
+// Where the words of a refusal begin among all of them, one after the other, and how many bytes they have.
+fn words_from(refusal: u32) -> usize
+    ensures { λ r. ⌜ r ≡ wordsFrom refusal ⌝ }
+{
+    match refusal {
+        3 => 0,
+        5 => 32,
+        6 => 58,
+        8 => 89,
+        9 => 111,
+        10 => 126,
+        12 => 250,
+        13 => 284,
+        19 => 154,
+        20 => 172,
+        21 => 191,
+        22 => 213,
+        23 => 307,
+        _ => 330,
+    }
+}
+
+fn words_length(refusal: u32) -> usize
+    ensures { λ r. ⌜ r ≡ length (wrong refusal) ⌝ }
+{
+    match refusal {
+        3 => 32,
+        5 => 26,
+        6 => 31,
+        8 => 22,
+        9 => 15,
+        10 => 28,
+        12 => 34,
+        13 => 23,
+        19 => 18,
+        20 => 19,
+        21 => 22,
+        22 => 37,
+        23 => 23,
+        _ => 0,
+    }
+}
+
 // What is wrong, in words.
 fn add_wrong(text: &mut [u8], at: usize, refusal: u32) -> usize
     requires { ⌜ at + 40 ≤ length (now text) ⌝ }
     ensures { λ r. ⌜ Added 40 (now (text .entry)) at (wrong refusal) (now (text .exit)) r ⌝ }
 {
-    match refusal {
-        3 => add(text, at, b"the first number is out of range"),
-        5 => add(text, at, b"the number is not the next"),
-        6 => add(text, at, b"the entry count is out of range"),
-        8 => add(text, at, b"no entry has this flag"),
-        9 => add(text, at, b"bit b4 went out"),
-        10 => add(text, at, b"this kind may not stand here"),
-        12 => add(text, at, b"the data would pass into the table"),
-        13 => add(text, at, b"the skip count is wrong"),
-        19 => add(text, at, b"a part of no bytes"),
-        20 => add(text, at, b"a separator above 1"),
-        21 => add(text, at, b"the record is too long"),
-        22 => add(text, at, b"the total is not the sum of its parts"),
-        23 => add(text, at, b"the total had room here"),
-        _ => at,
-    }
+    let words =
+        *b"the first number is out of rangethe number is not the nextthe entry count is out of rangeno entry has this flagbit b4 went outthis kind may not stand herea part of no bytesa separator above 1the record is too longthe total is not the sum of its partsthe data would pass into the tablethe skip count is wrongthe total had room here";
+    let from = words_from(refusal);
+    let to = from + words_length(refusal);
+    add(text, at, &words[from..to])
 }
 
 // The entry's byte, where there is an entry.

@@ -1,66 +1,32 @@
--- `add_wrong` meets its contract: refusal by refusal. Assumes nothing.
+-- `add_wrong` meets its contract: what is added is the part of all words where the refusal's stand. Assumes nothing.
 use borrow.Author.Needs.{needs}
+use Prim.Native.Nat.{ℕ, _+_, _≤_}
 use mathlib.Core.Path.{refl}
 use native.Mathlib.Omega.{arith}
-use Rattle.words.proofs.AddedLaws.{added-as, added-none}
-use Rattle.explaining.proofs.LineLaws.{words-of, wordless}
+use Rattle.words.proofs.AddedLaws.{added-as}
+use Rattle.explaining.proofs.LineLaws.{stand, part-few, part-same}
 use Rattle.explaining.proofs.refused.add_wrong.Statement.{statement}
 use Rattle.explaining.proofs.refused.add_wrong.Tie as tie
+
+-- The words end inside all of them.
+inside : (c : tie.After-words-length) → c .before .words-from .result + c .words-length .result ≤ 330
+inside c = let s = stand (c .before .before .before .before .before .args .refusal) in omega (arith, s .inside, c .before .words-from .ensures, c .words-length .ensures)
+
+room : (at few all : ℕ) → at + 40 ≤ all → few ≤ 40 → at + few ≤ all
+room at few all h f = omega arith
 
 pub add-wrong-spec : {M : Type 1} → statement M
 add-wrong-spec =
     tie.close
     (tie.spec
-    (λ c. search needs)
     (λ c κs. search needs)
-    (λ c. search needs)
     (λ c κs. search needs)
+    (λ c. omega (arith, inside c))
     (λ c. search needs)
-    (λ c κs. search needs)
     (λ c. search needs)
-    (λ c κs. search needs)
+    (λ c. inside (c .before .before))
+    (λ c κs. room _ _ _ (c .before .before .before .before .before .before .before .before .pre) (part-few _ _ _ _ (c .before .before .before .words-length .ensures)))
     (λ c. search needs)
-    (λ c κs. search needs)
-    (λ c. search needs)
-    (λ c κs. search needs)
-    (λ c. search needs)
-    (λ c κs. search needs)
-    (λ c. search needs)
-    (λ c κs. search needs)
-    (λ c. search needs)
-    (λ c κs. search needs)
-    (λ c. search needs)
-    (λ c κs. search needs)
-    (λ c. search needs)
-    (λ c κs. search needs)
-    (λ c. search needs)
-    (λ c κs. search needs)
-    (λ c. search needs)
-    (λ c κs. search needs)
-    (λ c. search needs)
-    (λ c. added-as (words-of _ 3 _ refl (c .before .before .before .before .before .match .keys1)) (omega arith) (c .before .before .add .ensures))
-    (λ c. search needs)
-    (λ c. added-as (words-of _ 5 _ refl (c .before .before .before .before .before .match .keys2)) (omega arith) (c .before .before .add2 .ensures))
-    (λ c. search needs)
-    (λ c. added-as (words-of _ 6 _ refl (c .before .before .before .before .before .match .keys3)) (omega arith) (c .before .before .add3 .ensures))
-    (λ c. search needs)
-    (λ c. added-as (words-of _ 8 _ refl (c .before .before .before .before .before .match .keys4)) (omega arith) (c .before .before .add4 .ensures))
-    (λ c. search needs)
-    (λ c. added-as (words-of _ 9 _ refl (c .before .before .before .before .before .match .keys5)) (omega arith) (c .before .before .add5 .ensures))
-    (λ c. search needs)
-    (λ c. added-as (words-of _ 10 _ refl (c .before .before .before .before .before .match .keys6)) (omega arith) (c .before .before .add6 .ensures))
-    (λ c. search needs)
-    (λ c. added-as (words-of _ 12 _ refl (c .before .before .before .before .before .match .keys7)) (omega arith) (c .before .before .add7 .ensures))
-    (λ c. search needs)
-    (λ c. added-as (words-of _ 13 _ refl (c .before .before .before .before .before .match .keys8)) (omega arith) (c .before .before .add8 .ensures))
-    (λ c. search needs)
-    (λ c. added-as (words-of _ 19 _ refl (c .before .before .before .before .before .match .keys9)) (omega arith) (c .before .before .add9 .ensures))
-    (λ c. search needs)
-    (λ c. added-as (words-of _ 20 _ refl (c .before .before .before .before .before .match .keys10)) (omega arith) (c .before .before .add10 .ensures))
-    (λ c. search needs)
-    (λ c. added-as (words-of _ 21 _ refl (c .before .before .before .before .before .match .keys11)) (omega arith) (c .before .before .add11 .ensures))
-    (λ c. search needs)
-    (λ c. added-as (words-of _ 22 _ refl (c .before .before .before .before .before .match .keys12)) (omega arith) (c .before .before .add12 .ensures))
-    (λ c. search needs)
-    (λ c. added-as (words-of _ 23 _ refl (c .before .before .before .before .before .match .keys13)) (omega arith) (c .before .before .add13 .ensures))
-    (λ c. let h = c .match .rest in added-as (wordless _ (h .0 .0 .0 .0 .0 .0 .0 .0 .0 .0 .0 .0 .1) (h .0 .0 .0 .0 .0 .0 .0 .0 .0 .0 .0 .1) (h .0 .0 .0 .0 .0 .0 .0 .0 .0 .0 .1) (h .0 .0 .0 .0 .0 .0 .0 .0 .0 .1) (h .0 .0 .0 .0 .0 .0 .0 .0 .1) (h .0 .0 .0 .0 .0 .0 .0 .1) (h .0 .0 .0 .0 .0 .0 .1) (h .0 .0 .0 .0 .0 .1) (h .0 .0 .0 .0 .1) (h .0 .0 .0 .1) (h .0 .0 .1) (h .0 .1) (h .1)) (omega arith) (added-none 0 _ _)))
+    (λ c.
+    let w = c .before .before .before .before .before .before in
+    added-as (part-same _ _ _ _ refl (w .before .words-from .ensures) (w .words-length .ensures)) (part-few _ _ _ _ (w .words-length .ensures)) (c .before .before .add .ensures)))
