@@ -3,6 +3,7 @@
 -- Assumes nothing.
 use Prim.Native.Nat.{ℕ, zero, suc, _+_, _*_}
 use mathlib.Core.Path.{_≡_}
+use mathlib.Core.Bool.{true}
 use mathlib.Core.List.{List, [], _++_}
 use lib.Dec.{leb}
 use lib.ListN.{length, take, drop}
@@ -15,21 +16,21 @@ use Rattle.sections.specs.declared.Sections.the-variants.{Next, Bad, Whole}
 use Rattle.sections.specs.Sections.{sectionsOf, pairAt}
 use Rattle.telling.specs.Telling.{badStep, endStep}
 use Rattle.telling.specs.Listing.{andThen}
-use Rattle.explaining.specs.Lines.{whereLine, foundLine}
-use Rattle.explaining.specs.Steps.{startStep, groupStep}
+use Rattle.reason_lines.specs.Lines.{wrong, whereLine, foundLine}
+use Rattle.explaining.specs.Steps.{explainStart, explainGroup}
 
 -- `left` groups of `size` bytes are left of these images, from pair i on; the group of pair i is the file's (i + 1)-th.
 unfoldable pub groupsExplained : (left i size : ℕ) (input images : List ℕ) → Reader → List ℕ
 groupsExplained zero i size input images s = endStep s (leb 1 (length images)) .text
 groupsExplained (suc left) i size input images s =
-    andThen (groupStep (i + 1) s (leb size (length images)) (take size images) (pairAt input i))
+    andThen (explainGroup (i + 1) s (leb size (length images)) (take size images) (pairAt input i))
     (λ t. groupsExplained left (i + 1) size input (drop size images) t)
 
 abbrev pub sectionsExplained : List ℕ → Sections → List ℕ
 sectionsExplained input (Next to) = badStep .text
 sectionsExplained input Bad = badStep .text
 sectionsExplained input (Whole size groups) =
-    andThen (startStep size (pairAt input 0)) (λ s. groupsExplained groups 0 size input (drop (16 + 4 * groups) input) s)
+    andThen (explainStart size (pairAt input 0)) (λ s. groupsExplained groups 0 size input (drop (16 + 4 * groups) input) s)
 
 -- All that is printed of an input.
 unfoldable pub explaining : List ℕ → List ℕ
@@ -49,3 +50,8 @@ pub record SameLine (listed explained : List ℕ) : Type 0 where
   pub kind : LastLine line behind
   pub lists : listed ≡ before ++ line
   pub explains : explained ≡ line ++ behind
+
+-- A refusal that has words, or none.
+pub data Said : (refusal : ℕ) → Type 0 where
+  nothing : Said 0
+  words : {refusal : ℕ} → leb 1 (length (wrong refusal)) ≡ true → Said refusal

@@ -20,35 +20,35 @@ use Rattle.sections.specs.declared.Pair.{Pair}
 use Rattle.telling.specs.declared.Listed.{Listed}
 use Rattle.telling.specs.declared.Listed.the-variants.{On}
 use Rattle.telling.specs.Telling.{Step, last, badStep, rowNumbers}
-use Rattle.explaining.specs.Lines.{refusedLines}
+use Rattle.reason_lines.specs.Lines.{refusedLines}
 
 -- "The first pair's number starts the run." A start is refused with 3 alone, since L is in range: the first number is 1 to 65,535.
 abbrev pub startExplained : (refusal first : ℕ) → Explanation
 startExplained refusal first = explanation refusal 0 0 (reason first 1 lastNumber 0)
 
-abbrev pub stepOfStart : ReaderStart → (first : ℕ) → Step
-stepOfStart (start.Started s) first = record { text = []; then = On s }
-stepOfStart (start.Refused refusal) first = last (refusedLines 1 (startExplained refusal first))
+abbrev pub startedStep : ReaderStart → (first : ℕ) → Step
+startedStep (start.Started s) first = record { text = []; then = On s }
+startedStep (start.Refused refusal) first = last (refusedLines 1 (startExplained refusal first))
 
-unfoldable pub startStep : (size : ℕ) → Pair → Step
-startStep size first = stepOfStart (readerStartCall size (first .number)) (first .number)
+unfoldable pub explainStart : (size : ℕ) → Pair → Step
+explainStart size first = startedStep (readerStartCall size (first .number)) (first .number)
 
 -- A read, explained where it is refused.
-abbrev pub stepOfRead : ReadAnswer → (i : ℕ) → Explanation → Step
-stepOfRead (answer.Accepted t) i x = record { text = []; then = On t }
-stepOfRead (answer.Repeated s) i x = record { text = []; then = On s }
-stepOfRead (answer.Refused s refusal place) i x = last (refusedLines i x)
+abbrev pub readingStep : ReadAnswer → (i : ℕ) → Explanation → Step
+readingStep (answer.Accepted t) i x = record { text = []; then = On t }
+readingStep (answer.Repeated s) i x = record { text = []; then = On s }
+readingStep (answer.Refused s refusal place) i x = last (refusedLines i x)
 
 -- The bytes of the lister's room for rows.
 abbrev pub rowBytes : ℕ
 rowBytes = 4 * rowNumbers
 
-unfoldable pub readStep : (i : ℕ) → Reader → List ℕ → (number entries : ℕ) → Step
-readStep i s image number entries = stepOfRead (readCall s image number entries rowNumbers) i (explained s image number entries rowBytes)
+unfoldable pub explainRead : (i : ℕ) → Reader → List ℕ → (number entries : ℕ) → Step
+explainRead i s image number entries = readingStep (readCall s image number entries rowNumbers) i (explained s image number entries rowBytes)
 
 -- The i-th group of the file, where the input had all of its image or not.
-unfoldable pub groupStep : (i : ℕ) → Reader → Bool → List ℕ → Pair → Step
-groupStep i s whole image pair = cond whole (readStep i s image (pair .number) (pair .entries)) badStep
+unfoldable pub explainGroup : (i : ℕ) → Reader → Bool → List ℕ → Pair → Step
+explainGroup i s whole image pair = cond whole (explainRead i s image (pair .number) (pair .entries)) badStep
 
 -- Serves the program's contracts, as the lister's own does: how the run goes on after the group of a pair is how it does after the step
 -- of some image of this size, whole or cut short.
@@ -56,4 +56,4 @@ pub record Follows (i : ℕ) (s : Reader) (size : ℕ) (pair : Pair) (then : Lis
   pub whole : Bool
   pub image : List ℕ
   pub long : length image ≡ size
-  pub goes : then ≡ groupStep i s whole image pair .then
+  pub goes : then ≡ explainGroup i s whole image pair .then

@@ -1,13 +1,11 @@
 // What the explainer prints of a refusal, put into a lent text, and how a run goes on after each step. What the program writes is the first
 // bytes of that text, as many as are answered. The lines of a run that ends without a refusal are the lister's own (telling).
-mod refused;
-
 ghost use Prim.Native.Nat.{_+_, _*_, _≤_};
 ghost use lib.ListN.{length};
 ghost use Rattle.sections.specs.Sections.{mostGroups, pairAt};
 ghost use Rattle.telling.specs.Telling.{last, longestText, Tells};
-ghost use Rattle.explaining.specs.Lines.{refusedLines};
-ghost use Rattle.explaining.specs.Steps.{startStep, readStep, groupStep};
+ghost use Rattle.reason_lines.specs.Lines.{refusedLines};
+ghost use Rattle.explaining.specs.Steps.{explainStart, explainRead, explainGroup};
 use explain::Explanation;
 use group::Group;
 use reader::ReadAnswer;
@@ -27,7 +25,7 @@ fn tell_refused(text: &mut [u8], i: u32, x: Explanation) -> Said
     requires { ⌜ longestText ≤ length (now text) ⌝ }
     ensures { λ r. ⌜ Tells (last (refusedLines i x)) (now (text .entry)) (now (text .exit)) r ⌝ }
 {
-    let length = refused::add_refused(text, 0, i, x);
+    let length = reason_lines::add_refused(text, 0, i, x);
     Said {
         length,
         then: Listed::Stopped,
@@ -37,7 +35,7 @@ fn tell_refused(text: &mut [u8], i: u32, x: Explanation) -> Said
 // The sections are whole: the first pair's number starts the run.
 pub fn tell_start(text: &mut [u8], size: u32, bytes: &[u8]) -> Said
     requires { ⌜ (longestText ≤ length (now text)) × (16 ≤ length (now bytes)) ⌝ }
-    ensures { λ r. ⌜ Tells (startStep size (pairAt (now (bytes .entry)) 0)) (now (text .entry)) (now (text .exit)) r ⌝ }
+    ensures { λ r. ⌜ Tells (explainStart size (pairAt (now (bytes .entry)) 0)) (now (text .entry)) (now (text .exit)) r ⌝ }
 {
     let first = sections::pair_at(bytes, 0);
     match Reader::start(size, first.number) {
@@ -67,7 +65,7 @@ fn tell_read(
     entries: u32,
 ) -> Said
     requires { ⌜ longestText ≤ length (now text) ⌝ }
-    ensures { λ r. ⌜ Tells (readStep i reader (now (image .entry)) number entries) (now (text .entry)) (now (text .exit)) r ⌝ }
+    ensures { λ r. ⌜ Tells (explainRead i reader (now (image .entry)) number entries) (now (text .entry)) (now (text .exit)) r ⌝ }
 {
     match reader.judge(image, number, entries, ROW_NUMBERS) {
         ReadAnswer::Accepted(next) => Said {
@@ -100,7 +98,7 @@ pub fn tell_group(
 ) -> Said
     requires { ⌜ (longestText ≤ length (now text)) × (12 + 4 * (i + 1) ≤ length (now bytes)) ⌝ }
     requires { ⌜ i ≤ mostGroups ⌝ }
-    ensures { λ r. ⌜ Tells (groupStep (i + 1) reader whole (now (image .entry)) (pairAt (now (bytes .entry)) i)) (now (text .entry)) (now (text .exit)) r ⌝ }
+    ensures { λ r. ⌜ Tells (explainGroup (i + 1) reader whole (now (image .entry)) (pairAt (now (bytes .entry)) i)) (now (text .entry)) (now (text .exit)) r ⌝ }
 {
     if !whole {
         return telling::tell_bad(text);

@@ -1,17 +1,12 @@
 -- `explain_group` lends as much of its buffer as a group has, and goes on as it is told.
 -- Assumes nothing.
-use Prim.Native.Nat.{ℕ, _≤_}
-use mathlib.Core.Path.{refl, sym}
-use mathlib.Core.Bool.{false}
+use Prim.Native.Nat.{_≤_}
+use mathlib.Core.Path.{sym}
 use mathlib.Core.List.{_++_}
 use borrow.Author.Needs.{needs}
 use native.Mathlib.Omega.{arith}
-use lib.ListN.{length, drop, replicate, length-append, length-replicate}
+use lib.ListN.{length, drop, length-append}
 use lib.Seq.{length-take-le}
-use Rattle.reader.specs.declared.Reader.{Reader}
-use Rattle.sections.specs.declared.Pair.{Pair}
-use Rattle.telling.specs.declared.Listed.the-variants.{Stopped}
-use Rattle.explaining.specs.Steps.{Follows}
 use Rattle.explainer.proofs.running.explain_group.Statement.{statement}
 use Rattle.explainer.proofs.running.explain_group.Tie as tie
 
