@@ -1,5 +1,7 @@
 // Change request 2026-07: why a read refuses: the rule that is broken first, where, what was found there and what is allowed. None
 // of these functions requires anything.
+mod plain;
+
 ghost use mathlib.Core.Path.{_≡_};
 ghost use Rattle.explain.specs.Explanation.{noRefusal, explained};
 use entry::ScanEnd;
@@ -54,7 +56,7 @@ impl Explanation {
             };
         }
         let opening = reader::ends::opening(reader);
-        match scan::scan_entries(group, reader.size, entries, opening) {
+        match plain::scan_plainly(group, reader.size, entries, opening) {
             ScanEnd::Reached(_) => Explanation::none(),
             ScanEnd::Refused(fault, place, here) => {
                 let offset = entries::entry_offset(reader.size, place);

@@ -17,10 +17,10 @@ open-to : (c : tie.Else2) → Ready (c .before .before .before .before .before .
 open-to c = ready _ _ _ _ _ (sym (c .before .refusal .ensures) ∙ c .if2 .left)
 
 -- What the scan gives is the whole group's scan.
-scanned : (c : tie.After-scan-entries) (end : ScanEnd) → c .scan-entries .result ≡ end
+scanned : (c : tie.After-scan-plainly) (end : ScanEnd) → c .scan-plainly .result ≡ end
     → groupScan (c .before .before .before .before .before .before .before .args .reader) (c .before .before .before .before .before .before .before .args .group .now) (c .before .before .before .before .before .before .before .args .entries) ≡ end
 unfolding groupScan
-scanned c end e = ap (scan _ _ _ 1) (sym (c .before .opening .ensures)) ∙ sym (c .scan-entries .ensures) ∙ e
+scanned c end e = ap (scan _ _ _ 1) (sym (c .before .opening .ensures)) ∙ sym (c .scan-plainly .ensures) ∙ e
 
 pub of-spec : {M : Type 1} → statement M
 of-spec =

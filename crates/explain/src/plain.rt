@@ -1,0 +1,36 @@
+// The scan of a group's table with nothing but the rules. An explanation is in no haste; the quick scan has one caller, the read, so that the
+// compiler builds it into that one.
+ghost use mathlib.Core.Path.{_≡_};
+ghost use Prim.Native.Nat.{_-_};
+ghost use Rattle.group.specs.Sizes.{informationLength, entryOffset};
+ghost use Rattle.group.specs.Entries.{entriesBelow};
+ghost use Rattle.entry.specs.Scan.{scan};
+ghost use Rattle.entry.specs.Bounds.{Cut, Bounded};
+use entry::Cursor;
+use entry::ScanEnd;
+use entry::rules;
+use group::Group;
+
+// Entry by entry downward from the table's top, stopping at the first that breaks a rule.
+pub(crate) fn scan_plainly(group: &[u8], size: u32, entries: u32, opening: Cursor) -> ScanEnd
+    requires { ⌜ (Cut (now group) size entries) × Bounded (entryOffset size entries) opening ⌝ }
+    ensures { λ r. ⌜ r ≡ scan size (entryOffset size entries) (entriesBelow (now (group .entry)) (size - informationLength) entries) 1 opening ⌝ }
+{
+    let limit = size - Group::INFORMATION_LENGTH - Group::ENTRY_LENGTH * entries;
+    let mut left = entries;
+    let mut here = opening;
+    while left > 0 {
+        left = left - 1;
+        let at = limit + Group::ENTRY_LENGTH * left;
+        let entry = group::entries::entry_at(group, at as usize);
+        let count = entry.count;
+        let meaning = group::flags::meaning_of(entry.flag);
+        let follows = rules::follows();
+        let fault = rules::entry_fault(&follows, size, limit, left == 0, here, meaning, count);
+        if fault != 0 {
+            return ScanEnd::Refused(fault, entries - left, here);
+        }
+        here = rules::advance(here, meaning, count);
+    }
+    ScanEnd::Reached(here)
+}
