@@ -1,9 +1,10 @@
-# `make` proves every crate, builds the library, its header and the lister into target/, and shows the main job; `make check` is
+# `make` proves every crate, builds the library, its header and both programs into target/, and shows the main job; `make check` is
 # the quick check of an edit; `make test` is the gate; `make bench` puts the library beside plain C; `make dist` packs archive,
 # header and documents into one tar file, for those who have no toolchain.
 .PHONY: all library layout check test bench dist clean always
 archive = target/staticlib/libdds.a
 lister = target/bin/lister
+explainer = target/bin/explainer
 
 # all that rt reads, folders too, so that a file that went counts; the edits that must be refused are no part of what is built
 sources := $(shell find crates -name must-fail -prune -o -print) crates.txt
@@ -12,7 +13,7 @@ all: library
 	@echo
 	examples/run $(archive)
 
-library: $(lister) $(archive) target/dds.h
+library: $(lister) $(explainer) $(archive) target/dds.h
 
 # what was built by another toolchain is built again
 toolchain := $(shell rt version)
@@ -26,6 +27,11 @@ $(lister): $(sources)
 	tests/notes rt check
 	@touch $@
 	@echo '$(toolchain)' >target/toolchain
+
+# rt check builds both programs
+$(explainer): $(lister)
+	@[ -f $@ ] || { rm -f target/stamp/explainer; tests/notes rt check explainer; }
+	@touch $@
 
 # rt staticlib proves dds again each time, so it is asked only where something has changed
 $(archive): $(lister)
@@ -45,6 +51,7 @@ check: layout library
 	tests/symbols $(archive)
 	tests/costs $(archive)
 	tests/lister/run $(lister)
+	tests/explainer/run $(explainer)
 	tests/run $(archive) plain
 
 test:

@@ -19,7 +19,10 @@ pub(crate) fn scan_plainly(group: &[u8], size: u32, entries: u32, opening: Curso
     let limit = size - Group::INFORMATION_LENGTH - Group::ENTRY_LENGTH * entries;
     let mut left = entries;
     let mut here = opening;
-    while left > 0 {
+    let outcome = loop {
+        if left == 0 {
+            break ScanEnd::Reached(here);
+        }
         left = left - 1;
         let at = limit + Group::ENTRY_LENGTH * left;
         let entry = group::entries::entry_at(group, at as usize);
@@ -28,9 +31,9 @@ pub(crate) fn scan_plainly(group: &[u8], size: u32, entries: u32, opening: Curso
         let follows = rules::follows();
         let fault = rules::entry_fault(&follows, size, limit, left == 0, here, meaning, count);
         if fault != 0 {
-            return ScanEnd::Refused(fault, entries - left, here);
+            break ScanEnd::Refused(fault, entries - left, here);
         }
         here = rules::advance(here, meaning, count);
-    }
-    ScanEnd::Reached(here)
+    };
+    outcome
 }

@@ -37,7 +37,7 @@ from c rest e =
     let x = c .before .before .before .before .entry-at in
     let m = c .before .before .before .meaning-of .ensures in
     (rw m at e)
-    ∙ sym (left-turn _ _ _ (l .loop .left) _ (x .result) (c .entry-fault .result) (omega (arith, c .before .before .before .before .before .loop-test .taken)) (l .loop .inv .most) (x .ensures .0) (rw m at (c .entry-fault .ensures)))
+    ∙ sym (left-turn _ _ _ (l .loop .left) _ (x .result) (c .entry-fault .result) (omega (arith, c .before .before .before .before .before .if1 .left)) (l .loop .inv .most) (x .ensures .0) (rw m at (c .entry-fault .ensures)))
     ∙ l .loop .inv .same
 
 loop-again : tie.Need-loop-again Inv-loop μ-loop
@@ -46,14 +46,14 @@ loop-again c =
     let l = n .before .before .before .before .before .before in
     record {
       most = omega (arith, l .loop .inv .most);
-      bounded = rw (c .advance .ensures) (stays _ _ _ _ _ _ (l .loop .inv .bounded) (sym (n .entry-fault .ensures) ∙ c .before .if1 .left));
-      same = from n _ (ap (scanLeft _ _ _ _) (c .advance .ensures) ∙ goes-on _ _ _ _ (c .before .if1 .left));
+      bounded = rw (c .advance .ensures) (stays _ _ _ _ _ _ (l .loop .inv .bounded) (sym (n .entry-fault .ensures) ∙ c .before .if2 .left));
+      same = from n _ (ap (scanLeft _ _ _ _) (c .advance .ensures) ∙ goes-on _ _ _ _ (c .before .if2 .left));
     }
 
-refused : tie.Need-returns Inv-loop μ-loop
+refused : tie.Need-returns-2 Inv-loop μ-loop
 refused c =
     let l = c .before .before .before .before .before .before .before in
-    from (c .before) _ (stops _ _ _ _ _ (omega (arith, c .before .before .before .before .before .before .loop-test .taken, l .loop .inv .most)) (c .if1 .taken))
+    from (c .before) _ (stops _ _ _ _ _ (omega (arith, c .before .before .before .before .before .before .if1 .left, l .loop .inv .most)) (c .if2 .taken))
 
 pub scan-plainly-spec : {M : Type 1} → statement M
 scan-plainly-spec =
@@ -74,10 +74,10 @@ scan-plainly-spec =
     (λ c κs. search needs)
     (λ c κs. (c .before .follows .ensures, (c .before .before .before .before .before .loop .inv .bounded, (omega arith, (omega arith, omega (arith, c .before .before .before .entry-at .ensures .1))))))
     (λ c. omega arith)
-    refused
     (λ c κs.
     let b = c .before .before .before .before .before .before .before .loop .inv .bounded in
     (b .sum, (omega (arith, b .reached), omega (arith, c .before .before .before .before .before .entry-at .ensures .1))))
     (λ c. omega arith)
     loop-again
-    (λ c. none-left _ _ _ _ _ (omega (arith, c .loop-test .left)) ∙ c .before .loop .inv .same))
+    (λ c. none-left _ _ _ _ _ (c .if1 .taken) ∙ c .before .loop .inv .same)
+    refused)
