@@ -2,10 +2,8 @@
 -- lister's, and so are the lines that end a run without a refusal; nothing is printed of a group that is accepted, nor of a repeat.
 -- Assumes nothing.
 use Prim.Native.Nat.{ℕ, _*_}
-use mathlib.Core.Path.{_≡_}
 use mathlib.Core.List.{List, []}
 use mathlib.Core.Bool.{Bool, cond}
-use lib.ListN.{length}
 use Rattle.group.specs.Sizes.{lastNumber}
 use Rattle.reader.specs.declared.Reader.{Reader}
 use Rattle.reader.specs.declared.ReaderStart.{ReaderStart}
@@ -17,7 +15,6 @@ use Rattle.reasons.specs.Reasons.{reason}
 use Rattle.explain.specs.declared.Explanation.{Explanation}
 use Rattle.explain.specs.Explanation.{explanation, explained}
 use Rattle.sections.specs.declared.Pair.{Pair}
-use Rattle.telling.specs.declared.Listed.{Listed}
 use Rattle.telling.specs.declared.Listed.the-variants.{On}
 use Rattle.telling.specs.Telling.{Step, last, badStep, rowNumbers}
 use Rattle.reason_lines.specs.Lines.{refusedLines}
@@ -49,11 +46,3 @@ explainRead i s image number entries = readingStep (readCall s image number entr
 -- The i-th group of the file, where the input had all of its image or not.
 unfoldable pub explainGroup : (i : ℕ) → Reader → Bool → List ℕ → Pair → Step
 explainGroup i s whole image pair = cond whole (explainRead i s image (pair .number) (pair .entries)) badStep
-
--- Serves the program's contracts, as the lister's own does: how the run goes on after the group of a pair is how it does after the step
--- of some image of this size, whole or cut short.
-pub record Follows (i : ℕ) (s : Reader) (size : ℕ) (pair : Pair) (then : Listed) : Type 0 where
-  pub whole : Bool
-  pub image : List ℕ
-  pub long : length image ≡ size
-  pub goes : then ≡ explainGroup i s whole image pair .then

@@ -75,12 +75,3 @@ longestText = 36 + 32 * mostEntries
 pub record Tells (step : Step) (old text : List ℕ) (said : Said) : Type 0 where
   pub added : Added longestText old 0 (step .text) text (said .length)
   pub goes : said .then ≡ step .then
-
--- Serves the program's contracts, which cannot say what is read or whether it could be written: how the run goes on after the group
--- of a pair is how it does after the step of some image of this size, whole or cut short. A step that could not be written
--- stops the run as one cut short does.
-pub record Follows (s : Reader) (size : ℕ) (pair : Pair) (then : Listed) : Type 0 where
-  pub whole : Bool
-  pub image : List ℕ
-  pub long : length image ≡ size
-  pub goes : then ≡ groupStep s whole image pair .then

@@ -1,4 +1,4 @@
--- `list_group` lends as much of its buffer as a group has, and goes on as it is told, or stops where that could not be written.
+-- `run_group` lends as much of its buffer as a group has, and goes on as it is told, or stops where that could not be written.
 -- Assumes nothing.
 use Prim.Native.Nat.{ℕ, _≤_}
 use mathlib.Core.Path.{refl, sym}
@@ -11,9 +11,13 @@ use lib.Seq.{length-take-le}
 use Rattle.reader.specs.declared.Reader.{Reader}
 use Rattle.sections.specs.declared.Pair.{Pair}
 use Rattle.telling.specs.declared.Listed.the-variants.{Stopped}
-use Rattle.telling.specs.Telling.{Follows, groupStep, badStep}
-use Rattle.lister.proofs.listing.list_group.Statement.{statement}
-use Rattle.lister.proofs.listing.list_group.Tie as tie
+use Rattle.telling.specs.Telling.{groupStep, badStep}
+use Rattle.explaining.specs.Steps.{explainGroup}
+use Rattle.runfile.specs.declared.Program.{Program}
+use Rattle.runfile.specs.declared.Program.the-variants.{Lister, Explainer}
+use Rattle.runfile.specs.Steps.{Follows}
+use Rattle.runfile.proofs.run_group.Statement.{statement}
+use Rattle.runfile.proofs.run_group.Tie as tie
 
 -- The buffer after the image was read into it is no shorter than the image.
 room : (c : tie.After-text)
@@ -24,12 +28,13 @@ room c =
     simp length-append (omega (arith, whole, c .before .before .read-whole .kept .0))
 
 -- A step that could not be written stops the run, as the step of an image cut short does.
-stopped : (s : Reader) (size : ℕ) (pair : Pair) → Follows s size pair Stopped
-unfolding groupStep badStep
-stopped s size pair = record { whole = false; image = replicate size 0; long = length-replicate {A = ℕ} size 0; goes = refl }
+stopped : (program : Program) (i : ℕ) (s : Reader) (size : ℕ) (pair : Pair) → Follows program i s size pair Stopped
+unfolding groupStep explainGroup badStep
+stopped Lister i s size pair = record { whole = false; image = replicate size 0; long = length-replicate {A = ℕ} size 0; goes = refl }
+stopped Explainer i s size pair = record { whole = false; image = replicate size 0; long = length-replicate {A = ℕ} size 0; goes = refl }
 
-pub list-group-spec : {M : Type 1} → statement M
-list-group-spec =
+pub run-group-spec : {M : Type 1} → statement M
+run-group-spec =
     tie.close
     (tie.spec
     (λ c κs. search needs)
@@ -42,7 +47,7 @@ list-group-spec =
     (λ c κs. search needs)
     (λ c. search needs)
     (λ c κs. search needs)
-    (λ c. stopped _ _ _)
+    (λ c. stopped _ _ _ _ _)
     (λ c.
     record {
       whole = _;

@@ -1,25 +1,25 @@
--- `main` goes on with sections that are in range. Assumes nothing.
+-- `run` goes on with sections that are in range. Assumes nothing.
 use borrow.Author.Needs.{needs}
 use native.Mathlib.Omega.{arith}
 use Rattle.sections.proofs.SectionLaws.{within-found}
-use Rattle.lister.proofs.main.Statement.{statement}
-use Rattle.lister.proofs.main.Tie as tie
+use Rattle.runfile.proofs.run.Statement.{statement}
+use Rattle.runfile.proofs.run.Tie as tie
 
-list-run-requires : tie.Need-list-run-requires
-list-run-requires c κs =
+run-images-requires : tie.Need-run-images-requires
+run-images-requires c κs =
     let read = c .before .before .before .before .before .read-sections in
     let found = within-found _ _ _ _ (read .ensures) (c .before .before .size .given .1) in
     (found .range, omega (arith, found .range .1 .1, read .kept .0))
 
-pub main-spec : {M : Type 1} → statement M
-main-spec =
+pub run-spec : {M : Type 1} → statement M
+run-spec =
     tie.close
     (tie.spec
     (λ c. search needs)
     (λ c κs. search needs)
     (λ c. search needs)
     (λ c. search needs)
-    list-run-requires
+    run-images-requires
     (λ c. search needs)
     (λ c κs. search needs)
     (λ c. search needs)
