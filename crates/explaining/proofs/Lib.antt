@@ -1,4 +1,3 @@
--- The laws that the proofs of this crate share, and what the texts come to.
+-- The laws that the proofs of this crate share, and that every refusal of a run has words.
 pub mod StepLaws
-pub mod Theorems
 pub mod Words

@@ -33,8 +33,8 @@ use Rattle.sections.specs.Sections.{largestSize}
 use Rattle.reason_lines.specs.Lines.{wrong}
 use Rattle.telling.specs.Telling.{rowNumbers}
 use Rattle.explaining.specs.Steps.{rowBytes}
-use Rattle.explaining.specs.Explaining.{Said}
-use Rattle.explaining.specs.Explaining.Said.{nothing, words}
+use Rattle.explaining.specs.Said.{Said}
+use Rattle.explaining.specs.Said.Said.{nothing, words}
 
 -- Every rule of an entry has words.
 rule-said : (rule : Rule) → Said (ruleNumber rule)

@@ -1,4 +1,3 @@
--- What a reader of this crate must believe: what is told at each step of a run (Steps), and what the steps come to for a whole input
--- (Explaining).
+-- What a reader of this crate must believe: what is told at each step of a run (Steps), and that a refusal has words (Said).
 pub mod Steps
-pub mod Explaining
+pub mod Said

@@ -1,2 +1,2 @@
--- What a reader of this crate must believe: which steps each program takes.
-pub mod Steps
+-- Serves contracts only: how a run goes on.
+pub mod Follows

@@ -3,22 +3,16 @@
 // and differ in what they tell.
 pub mod input;
 pub mod output;
-pub mod steps;
 
 use output::TEXT_LENGTH;
+use programs::Program;
 use reader::Reader;
 use sections::Sections;
 use telling::Listed;
 ghost use Prim.Native.Nat.{_+_, _*_, _≤_};
 ghost use lib.ListN.{length};
 ghost use Rattle.sections.specs.Sections.{largestSize, mostGroups, pairAt, InRange};
-ghost use Rattle.runfile.specs.Steps.{Follows};
-
-// The programs: the lister prints what each group holds, the explainer why a run is refused.
-pub enum Program {
-    Lister,
-    Explainer,
-}
+ghost use Rattle.runfile.specs.Follows.{Follows};
 
 // The longest sections: 16 bytes, and a pair for each of 1,024 groups.
 const SECTIONS_LENGTH: usize = 4112;
@@ -39,7 +33,7 @@ fn run_group(program: Program, reader: Reader, size: usize, bytes: &[u8], i: usi
     let mut image = io::buffer();
     let whole = input::read_whole(&mut image[..size]);
     let mut text = [0u8; TEXT_LENGTH];
-    let said = steps::tell_group(program, &mut text, reader, whole, &image[..size], bytes, i);
+    let said = programs::tell_group(program, &mut text, reader, whole, &image[..size], bytes, i);
     if !output::say(&text, said.length) {
         return Listed::Stopped;
     }
@@ -81,7 +75,7 @@ fn run_images(program: Program, size: u32, groups: u32, bytes: &[u8])
     requires { ⌜ InRange size groups × (12 + 4 * groups ≤ length (now bytes)) ⌝ }
 {
     let mut text = [0u8; TEXT_LENGTH];
-    let said = steps::tell_start(program, &mut text, size, bytes);
+    let said = programs::tell_start(program, &mut text, size, bytes);
     output::say(&text, said.length);
     let then = said.then;
     match then {

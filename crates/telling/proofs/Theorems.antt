@@ -1,5 +1,4 @@
--- What the texts that are told come to: the bytes that the program writes, the room that never counts, a repeat, and case A of
--- document 01.
+-- What the texts that are told come to: the bytes that the program writes, the room that never counts, and a repeat.
 -- Assumes nothing.
 use Prim.Native.Nat.{ℕ, _+_, _*_, _≤_}
 use mathlib.Core.Path.{_≡_, refl, sym, ap, _∙_}
@@ -9,27 +8,17 @@ use native.Mathlib.Omega.{arith}
 use borrow.Author.Tests.{le-leb, leb-true}
 use lib.Dec.{eqb, leb}
 use lib.ListN.{length, take}
-use Rattle.numbers.specs.Numbers.{numberAt}
 use Rattle.numbers.proofs.Stores.{put-stands}
 use Rattle.numbers.proofs.Tests.{both}
 use Rattle.group.specs.Sizes.{informationLength, entryLength, entriesKept}
-use Rattle.group.specs.Entries.{entryAt, entriesBelow}
-use Rattle.group.specs.Flags.{meaningOf}
-use Rattle.group.specs.State.{runSound, startRefusal}
-use Rattle.entry.specs.Rules.{mayFollow, entryFault}
-use Rattle.entry.specs.Scan.{scan}
-use Rattle.rows.specs.Rows.{rowsFrom}
 use Rattle.reader.specs.declared.Reader.{Reader}
 use Rattle.reader.specs.declared.ReadAnswer.the-variants as answer
-use Rattle.reader.specs.Answer.{readerStartCall, sound, lengthKept, isRepeat, nextIs, rowsFit, readRefusal, answered, groupScan, readCall, groupRows}
-use Rattle.sections.specs.Sections.{largestSize, section, imagesSection, groupsSection, sizeSection, sectionsOf, pairAt}
-use Rattle.words.specs.Words.{decimalIn, decimal, field, labelled, kindName}
-use Rattle.lines.specs.Text.{groupLine, rowLine, rowLines, groupLines, repeatLine, refusalLine, ending, endLine, badLine}
+use Rattle.reader.specs.Answer.{sound, lengthKept, isRepeat, nextIs, rowsFit, readRefusal, answered, groupScan, readCall}
+use Rattle.sections.specs.Sections.{largestSize}
+use Rattle.lines.specs.Text.{repeatLine}
 use Rattle.telling.specs.declared.Listed.the-variants.{On}
 use Rattle.telling.specs.declared.Said.{Said}
-use Rattle.telling.specs.Telling.{Step, badStep, startStep, rowNumbers, readStep, groupStep, endStep, longestText, Tells}
-use Rattle.telling.specs.Listing.{groupsListed, listing}
-use Rattle.telling.specs.CaseA.{input, output}
+use Rattle.telling.specs.Telling.{Step, rowNumbers, readStep, longestText, Tells}
 
 -- What the program hands to its one write is the first bytes of the text, as many as are answered: they are the step's text.
 pub told-first : (step : Step) (old text : List ℕ) (said : Said) → Tells step old text said → longestText ≤ length old → take (said .length) text ≡ step .text
@@ -68,8 +57,3 @@ pub repeat-told : (s : Reader) (image : List ℕ) (number entries : ℕ) → isR
     → readStep s image number entries ≡ record { text = repeatLine number; then = On s }
 unfolding readStep readCall
 repeat-told s image number entries e = rw e
-
--- "Output, whole" of case A.
-pub case-a : listing input ≡ output
-unfolding numberAt entryAt entriesBelow meaningOf runSound startRefusal mayFollow entryFault scan rowsFrom readerStartCall isRepeat readRefusal groupScan readCall groupRows section imagesSection groupsSection sizeSection sectionsOf pairAt decimalIn decimal field labelled kindName groupLine rowLine rowLines groupLines refusalLine ending endLine badLine badStep startStep readStep groupStep endStep groupsListed listing
-case-a = refl

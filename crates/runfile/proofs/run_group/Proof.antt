@@ -13,9 +13,9 @@ use Rattle.sections.specs.declared.Pair.{Pair}
 use Rattle.telling.specs.declared.Listed.the-variants.{Stopped}
 use Rattle.telling.specs.Telling.{groupStep, badStep}
 use Rattle.explaining.specs.Steps.{explainGroup}
-use Rattle.runfile.specs.declared.Program.{Program}
-use Rattle.runfile.specs.declared.Program.the-variants.{Lister, Explainer}
-use Rattle.runfile.specs.Steps.{Follows}
+use Rattle.programs.specs.declared.Program.{Program}
+use Rattle.programs.specs.declared.Program.the-variants.{Lister, Explainer}
+use Rattle.runfile.specs.Follows.{Follows}
 use Rattle.runfile.proofs.run_group.Statement.{statement}
 use Rattle.runfile.proofs.run_group.Tie as tie
 

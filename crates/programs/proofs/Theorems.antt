@@ -1,4 +1,4 @@
--- What the texts come to: the explainer's first line is the lister's last, and every refusal that a run can meet has words.
+-- What the explainer prints beside what the lister prints: its first line is the lister's last.
 -- Assumes nothing.
 use Prim.Native.Nat.{ℕ, zero, suc, _+_, _*_, _-_}
 use mathlib.Core.Path.{_≡_, refl, sym, ap, _∙_}
@@ -22,11 +22,12 @@ use Rattle.sections.specs.declared.Sections.{Sections}
 use Rattle.sections.specs.declared.Sections.the-variants.{Next, Bad, Whole}
 use Rattle.sections.specs.Sections.{sectionsOf, pairAt}
 use Rattle.telling.specs.Telling.{badStep, stepOfStart, startStep, stepOfRead, rowNumbers, readStep, groupStep, endStep}
-use Rattle.telling.specs.Listing.{andThen, groupsListed, sectionsListed, listing}
 use Rattle.reason_lines.specs.Lines.{refusedLines}
 use Rattle.explaining.specs.Steps.{startExplained, startedStep, explainStart, readingStep, rowBytes, explainRead, explainGroup}
-use Rattle.explaining.specs.Explaining.{groupsExplained, sectionsExplained, explaining, LastLine, SameLine}
-use Rattle.explaining.specs.Explaining.LastLine.{bad, ended, refused}
+use Rattle.programs.specs.declared.Program.the-variants.{Lister, Explainer}
+use Rattle.programs.specs.Printed.{andThen, groupsPrinted, sectionsPrinted, printed}
+use Rattle.programs.specs.SameLine.{LastLine, SameLine}
+use Rattle.programs.specs.SameLine.LastLine.{bad, ended, refused}
 
 -- A line alone, and behind others.
 alone : (line : List ℕ) → LastLine line [] → SameLine line line
@@ -71,8 +72,8 @@ module _ (i : ℕ) (s : Reader) (image : List ℕ) (pair : Pair) (listed explain
       (explained-same s image (pair .number) (pair .entries) rowBytes)
   group-same false = rw (append-nil badLine) (alone badLine bad)
 
-groups-same : (left i size : ℕ) (input images : List ℕ) (s : Reader) → SameLine (groupsListed left i size input images s) (groupsExplained left i size input images s)
-unfolding groupsListed groupsExplained
+groups-same : (left i size : ℕ) (input images : List ℕ) (s : Reader) → SameLine (groupsPrinted Lister left i size input images s) (groupsPrinted Explainer left i size input images s)
+unfolding groupsPrinted
 groups-same zero i size input images s = ends-same s (leb 1 (length images))
 groups-same (suc left) i size input images s =
     group-same (i + 1) s (take size images) (pairAt input i) _ _ (λ t. groups-same left (i + 1) size input (drop size images) t) (leb size (length images))
@@ -82,7 +83,7 @@ start-same : (first : ℕ) (a : ReaderStart) (listed explained : Reader → List
 start-same first (start.Started s) listed explained rest = rest s
 start-same first (start.Refused refusal) listed explained rest = both-refuse 1 refusal 0 (startExplained refusal first) (refl, refl)
 
-sections-same : (input : List ℕ) (r : Sections) → SameLine (sectionsListed input r) (sectionsExplained input r)
+sections-same : (input : List ℕ) (r : Sections) → SameLine (sectionsPrinted Lister input r) (sectionsPrinted Explainer input r)
 unfolding startStep explainStart badStep
 sections-same input (Next to) = alone badLine bad
 sections-same input Bad = alone badLine bad
@@ -91,6 +92,6 @@ sections-same input (Whole size groups) =
 
 -- "a tool beside the lister": of any input the explainer's first line is the lister's last, and after a refusal the reason stands in two
 -- lines more.
-pub same-line : (input : List ℕ) → SameLine (listing input) (explaining input)
-unfolding listing explaining
+pub same-line : (input : List ℕ) → SameLine (printed Lister input) (printed Explainer input)
+unfolding printed
 same-line input = sections-same input (sectionsOf input)

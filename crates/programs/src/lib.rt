@@ -1,15 +1,20 @@
-// What each program tells at a step of a run.
+// The two programs that read a run file, and what each tells at a step of a run: the lister prints what each group holds, the explainer
+// why a run is refused.
 ghost use Prim.Native.Nat.{_+_, _*_, _≤_};
 ghost use lib.ListN.{length};
 ghost use Rattle.sections.specs.Sections.{mostGroups, pairAt};
 ghost use Rattle.telling.specs.Telling.{longestText, Tells};
-ghost use Rattle.runfile.specs.Steps.{startOf, groupOf};
-use crate::Program;
+ghost use Rattle.programs.specs.Steps.{startOf, groupOf};
 use reader::Reader;
 use telling::Said;
 
+pub enum Program {
+    Lister,
+    Explainer,
+}
+
 // The sections are whole: the first pair's number starts the run.
-pub(crate) fn tell_start(program: Program, text: &mut [u8], size: u32, bytes: &[u8]) -> Said
+pub fn tell_start(program: Program, text: &mut [u8], size: u32, bytes: &[u8]) -> Said
     requires { ⌜ (longestText ≤ length (now text)) × (16 ≤ length (now bytes)) ⌝ }
     ensures { λ r. ⌜ Tells (startOf program size (pairAt (now (bytes .entry)) 0)) (now (text .entry)) (now (text .exit)) r ⌝ }
 {
@@ -20,7 +25,7 @@ pub(crate) fn tell_start(program: Program, text: &mut [u8], size: u32, bytes: &[
 }
 
 // The group of pair i, counted from 0, where the input had all of its image or not.
-pub(crate) fn tell_group(
+pub fn tell_group(
     program: Program,
     text: &mut [u8],
     reader: Reader,

@@ -1,9 +1,9 @@
 -- `tell_start` meets its contract: program by program. Assumes nothing.
 use borrow.Author.Needs.{needs}
 use Rattle.telling.proofs.TellingLaws.{tells-as}
-use Rattle.runfile.proofs.StepLaws.{start-of}
-use Rattle.runfile.proofs.steps.tell_start.Statement.{statement}
-use Rattle.runfile.proofs.steps.tell_start.Tie as tie
+use Rattle.programs.proofs.StepLaws.{start-of}
+use Rattle.programs.proofs.tell_start.Statement.{statement}
+use Rattle.programs.proofs.tell_start.Tie as tie
 
 pub tell-start-spec : {M : Type 1} → statement M
 tell-start-spec =

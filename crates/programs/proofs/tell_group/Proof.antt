@@ -1,9 +1,9 @@
 -- `tell_group` meets its contract: program by program. Assumes nothing.
 use borrow.Author.Needs.{needs}
 use Rattle.telling.proofs.TellingLaws.{tells-as}
-use Rattle.runfile.proofs.StepLaws.{group-of}
-use Rattle.runfile.proofs.steps.tell_group.Statement.{statement}
-use Rattle.runfile.proofs.steps.tell_group.Tie as tie
+use Rattle.programs.proofs.StepLaws.{group-of}
+use Rattle.programs.proofs.tell_group.Statement.{statement}
+use Rattle.programs.proofs.tell_group.Tie as tie
 
 pub tell-group-spec : {M : Type 1} → statement M
 tell-group-spec =

@@ -6,8 +6,8 @@ use mathlib.Core.Bool.{Bool}
 use mathlib.Core.List.{List}
 use Rattle.reader.specs.declared.Reader.{Reader}
 use Rattle.sections.specs.declared.Pair.{Pair}
-use Rattle.runfile.specs.declared.Program.{Program}
-use Rattle.runfile.specs.Steps.{startOf, groupOf}
+use Rattle.programs.specs.declared.Program.{Program}
+use Rattle.programs.specs.Steps.{startOf, groupOf}
 
 pub start-of : (p q : Program) (size : ℕ) (first : Pair) → p ≡ q → startOf p size first ≡ startOf q size first
 start-of p q size first e = ap (λ (r : Program). startOf r size first) e
