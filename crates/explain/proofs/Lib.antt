@@ -2,4 +2,5 @@
 pub mod Scanned
 pub mod Told
 pub mod Theorems
+pub mod Only
 pub mod Settled

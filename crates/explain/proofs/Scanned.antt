@@ -46,7 +46,7 @@ found-in at e (r ∷ rs) = by (found-in at e rs) (keeps r at (meaningOf (e .flag
     by rest false h = broke r [] rs refl keeps-none h
 
 -- Every rule has a number, and the number's reason is the rule's.
-numbered : (r : Rule) → 1 ≤ ruleNumber r
+pub numbered : (r : Rule) → 1 ≤ ruleNumber r
 numbered flagKnown = omega arith
 numbered b4Stays = omega arith
 numbered kindFollows = omega arith

@@ -3,6 +3,7 @@
 mod plain;
 
 ghost use mathlib.Core.Path.{_≡_};
+ghost use Rattle.reader.specs.Answer.{isRepeat};
 ghost use Rattle.explain.specs.Explanation.{noRefusal, explained};
 use entry::ScanEnd;
 use reader::Reader;
@@ -16,6 +17,19 @@ pub struct Explanation {
     pub place: u32,
     pub offset: u32,
     pub why: Reason,
+}
+
+// Whether a group of this length with this number is a repeat. A read looks for it only where it would else be refused with 5.
+fn is_repeat(reader: Reader, length: usize, number: u32) -> bool
+    ensures { λ r. ⌜ r ≡ isRepeat reader length number ⌝ }
+{
+    if !reader.is_sound() {
+        return false;
+    }
+    if length != reader.size as usize {
+        return false;
+    }
+    reader.repeats(number)
 }
 
 impl Explanation {
@@ -35,7 +49,7 @@ impl Explanation {
     pub fn of(reader: Reader, group: &[u8], number: u32, entries: u32, rows: usize) -> Explanation
         ensures { λ r. ⌜ r ≡ explained reader (now (group .entry)) number entries rows ⌝ }
     {
-        if reader.is_repeat(group.len(), number) {
+        if is_repeat(reader, group.len(), number) {
             return Explanation::none();
         }
         let refusal = reader.refusal(group.len(), number, entries, rows / 4);

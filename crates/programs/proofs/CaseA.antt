@@ -8,7 +8,6 @@ use Rattle.group.specs.State.{runSound, startRefusal}
 use Rattle.entry.specs.Rules.{mayFollow, entryFault}
 use Rattle.entry.specs.Scan.{scan}
 use Rattle.rows.specs.Rows.{rowsFrom}
-use Rattle.reader.specs.declared.ReadAnswer.the-variants as answer
 use Rattle.reader.specs.Answer.{readerStartCall, isRepeat, readRefusal, groupScan, readCall, groupRows}
 use Rattle.sections.specs.Sections.{section, imagesSection, groupsSection, sizeSection, sectionsOf, pairAt}
 use Rattle.words.specs.Words.{decimalIn, decimal, field, labelled, kindName}

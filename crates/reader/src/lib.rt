@@ -6,7 +6,7 @@ ghost use mathlib.Core.Path.{_≡_};
 ghost use Prim.Native.Nat.{_/_};
 ghost use lib.ListN.{length};
 ghost use Rattle.numbers.specs.Numbers.{inBytes};
-ghost use Rattle.reader.specs.Answer.{readerStartCall, sound, repeats, isRepeat, readRefusal, readCall, asNumbers, Reads};
+ghost use Rattle.reader.specs.Answer.{readerStartCall, sound, repeats, readRefusal, readCall, asNumbers, Reads};
 use entry::ScanEnd;
 use group::Group;
 use group::Phase;
@@ -55,7 +55,7 @@ impl Reader {
         })
     }
 
-    fn is_sound(self) -> bool
+    pub fn is_sound(self) -> bool
         ensures { λ r. ⌜ r ≡ sound self ⌝ }
     {
         let phase = self.phase;
@@ -69,27 +69,13 @@ impl Reader {
     }
 
     // Whether a number is that of the last accepted group. The sum is taken in 64 bits: any number may come in.
-    fn repeats(self, number: u32) -> bool
+    pub fn repeats(self, number: u32) -> bool
         ensures { λ r. ⌜ r ≡ repeats self number ⌝ }
     {
         if (number as u64) + 1 != self.next as u64 {
             return false;
         }
         self.accepted
-    }
-
-    // Whether a group of this length with this number is a repeat. A read looks for it only where it would else be refused with 5; who is
-    // in less haste asks here.
-    pub fn is_repeat(self, length: usize, number: u32) -> bool
-        ensures { λ r. ⌜ r ≡ isRepeat self length number ⌝ }
-    {
-        if !self.is_sound() {
-            return false;
-        }
-        if length != self.size as usize {
-            return false;
-        }
-        self.repeats(number)
     }
 
     // The number of a refusal before the scan, 0 if there is none.

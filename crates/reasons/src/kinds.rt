@@ -1,6 +1,7 @@
 // What is told of kinds: which are permitted at a stand, the kind found, and what the sum leaves it.
 ghost use mathlib.Core.Path.{_≡_};
 ghost use Prim.Native.Nat.{_-_};
+ghost use mathlib.Core.Bool.{true};
 ghost use Rattle.group.specs.Flags.{meaningOf};
 ghost use Rattle.reasons.specs.Reasons.{permitted, leaves, kindFound, leavesIt};
 use entry::Stand;
@@ -18,42 +19,32 @@ pub(crate) fn less(a: u32, b: u32) -> u32
     a - b
 }
 
-// The permitted kinds, as the sum of their values: a skip alone, 64, at the last place; elsewhere separator, start and entire,
-// middle and last, or total.
+// The permitted kinds, as the sum of their values. At the last place a skip alone, 64, or none.
+fn permitted_last(stand: Stand) -> u64
+    ensures { λ r. ⌜ r ≡ permitted stand true ⌝ }
+{
+    match stand {
+        Stand::Free => 64,
+        Stand::AfterPart => 64,
+        Stand::Inside => 0,
+        Stand::AfterLast => 64,
+        Stand::Owed => 0,
+    }
+}
+
+// Elsewhere separator, start and entire, middle and last, total, or none.
 pub(crate) fn permitted(stand: Stand, last: bool) -> u64
     ensures { λ r. ⌜ r ≡ permitted stand last ⌝ }
 {
+    if last {
+        return permitted_last(stand);
+    }
     match stand {
-        Stand::Free => {
-            if last {
-                return 64;
-            }
-            42
-        }
-        Stand::AfterPart => {
-            if last {
-                return 64;
-            }
-            0
-        }
-        Stand::Inside => {
-            if last {
-                return 0;
-            }
-            20
-        }
-        Stand::AfterLast => {
-            if last {
-                return 64;
-            }
-            1
-        }
-        Stand::Owed => {
-            if last {
-                return 0;
-            }
-            1
-        }
+        Stand::Free => 42,
+        Stand::AfterPart => 0,
+        Stand::Inside => 20,
+        Stand::AfterLast => 1,
+        Stand::Owed => 1,
     }
 }
 

@@ -1,4 +1,4 @@
--- `permitted` meets its contract, stand by stand and by the last place: the sum is computed. Assumes nothing.
+-- `permitted` meets its contract, by the last place and stand by stand: the sum is computed. Assumes nothing.
 use borrow.Author.Needs.{needs}
 use Rattle.entry.specs.Rules.{mayFollow}
 use Rattle.reasons.specs.Reasons.{permitted}
@@ -10,18 +10,15 @@ unfolding permitted mayFollow
 permitted-spec =
     tie.close
     (tie.spec
+    (λ c κs. search needs)
+    (λ c. rw (c .before .if1 .taken) (c .permitted-last .ensures))
     (λ c. search needs)
-    (λ c. rw (c .before .enum-told .given .1, c .if1 .taken))
     (λ c. search needs)
-    (λ c. rw (c .before .enum-told2 .given .1, c .if2 .taken))
     (λ c. search needs)
-    (λ c. rw (c .before .enum-told3 .given .1, c .if3 .taken))
     (λ c. search needs)
-    (λ c. rw (c .before .enum-told4 .given .1, c .if4 .taken))
     (λ c. search needs)
-    (λ c. rw (c .before .enum-told5 .given .1, c .if5 .taken))
-    (λ c. rw (c .before .enum-told .given .1, c .if1 .left))
-    (λ c. rw (c .before .enum-told2 .given .1, c .if2 .left))
-    (λ c. rw (c .before .enum-told3 .given .1, c .if3 .left))
-    (λ c. rw (c .before .enum-told4 .given .1, c .if4 .left))
-    (λ c. rw (c .before .enum-told5 .given .1, c .if5 .left)))
+    (λ c. rw (c .enum-told .given .1, c .before .before .if1 .left))
+    (λ c. rw (c .enum-told2 .given .1, c .before .before .if1 .left))
+    (λ c. rw (c .enum-told3 .given .1, c .before .before .if1 .left))
+    (λ c. rw (c .enum-told4 .given .1, c .before .before .if1 .left))
+    (λ c. rw (c .enum-told5 .given .1, c .before .before .if1 .left)))

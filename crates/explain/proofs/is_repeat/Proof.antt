@@ -1,14 +1,14 @@
--- `Reader::is_repeat` meets its contract: the state, the length, the number. Assumes nothing.
+-- `is_repeat` meets its contract: the state, the length, the number. Assumes nothing.
 use borrow.Author.Needs.{needs}
 use borrow.Author.Tests.{eq-eqb, ne-eqb}
 use mathlib.Core.Path.{_≡_}
 use mathlib.Core.Bool.{true}
 use Rattle.numbers.proofs.Tests.{fails, holds}
 use Rattle.reader.specs.Answer.{sound, isRepeat}
-use Rattle.reader.proofs.Reader.is_repeat.Statement.{statement}
-use Rattle.reader.proofs.Reader.is_repeat.Tie as tie
+use Rattle.explain.proofs.is_repeat.Statement.{statement}
+use Rattle.explain.proofs.is_repeat.Tie as tie
 
-sound-is : (c : tie.Else1) → sound (c .before .before .args .self) ≡ true
+sound-is : (c : tie.Else1) → sound (c .before .before .args .reader) ≡ true
 sound-is c = holds (c .before .is-sound .ensures) (c .if1 .left)
 
 pub is-repeat-spec : {M : Type 1} → statement M
