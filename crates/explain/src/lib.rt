@@ -6,10 +6,10 @@ ghost use mathlib.Core.Path.{_≡_};
 ghost use Rattle.reader.specs.Answer.{isRepeat};
 ghost use Rattle.explain.specs.Explanation.{noRefusal, explained};
 use entry::ScanEnd;
+use finding::call;
+use finding::entries;
 use reader::Reader;
 use reasons::Reason;
-use reasons::call;
-use reasons::entries;
 
 // An explanation: the refusal, its place, the byte offset of that entry, and why.
 pub struct Explanation {

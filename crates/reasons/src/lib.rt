@@ -1,8 +1,5 @@
-// Change request 2026-07: the numbers of a reason: what was found, the least and the greatest allowed, and the permitted kinds, for each
-// refusal of reading. None of these functions requires anything: differences stop at 0, and sums are taken in 64 bits.
-pub mod call;
-pub mod entries;
-mod kinds;
+// Change request 2026-07: the numbers of a reason. What they are for each refusal of reading, and that they are true, is said and proved
+// here; how they are found stands above, in the crate finding.
 
 ghost use mathlib.Core.Path.{_≡_};
 ghost use Rattle.reasons.specs.Reasons.{reason, noReason};

@@ -1,8 +1,8 @@
 -- `next_reason` meets its contract: whether there is a next number. Assumes nothing.
 use borrow.Author.Needs.{needs}
 use borrow.Author.Tests.{le-leb, lt-leb}
-use Rattle.reasons.proofs.call.next_reason.Statement.{statement}
-use Rattle.reasons.proofs.call.next_reason.Tie as tie
+use Rattle.finding.proofs.call.next_reason.Statement.{statement}
+use Rattle.finding.proofs.call.next_reason.Tie as tie
 
 pub next-reason-spec : {M : Type 1} → statement M
 next-reason-spec =

@@ -1,9 +1,9 @@
 -- `entry_reason` meets its contract: the reason of each rule's number. Assumes nothing.
 use borrow.Author.Needs.{needs}
 use borrow.Author.Tests.{ne-eqb}
 use Rattle.reasons.specs.Reasons.{entryReason}
-use Rattle.reasons.proofs.entries.entry_reason.Statement.{statement}
-use Rattle.reasons.proofs.entries.entry_reason.Tie as tie
+use Rattle.finding.proofs.entries.entry_reason.Statement.{statement}
+use Rattle.finding.proofs.entries.entry_reason.Tie as tie
 
 pub entry-reason-spec : {M : Type 1} → statement M
 unfolding entryReason

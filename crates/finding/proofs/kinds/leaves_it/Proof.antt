@@ -1,7 +1,7 @@
 -- `leaves_it` meets its contract: by what the flag means. Assumes nothing.
 use borrow.Author.Needs.{needs}
-use Rattle.reasons.proofs.kinds.leaves_it.Statement.{statement}
-use Rattle.reasons.proofs.kinds.leaves_it.Tie as tie
+use Rattle.finding.proofs.kinds.leaves_it.Statement.{statement}
+use Rattle.finding.proofs.kinds.leaves_it.Tie as tie
 
 pub leaves-it-spec : {M : Type 1} → statement M
 leaves-it-spec =

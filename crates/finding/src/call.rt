@@ -1,9 +1,9 @@
 // The reason of a refusal before the scan.
 ghost use mathlib.Core.Path.{_≡_};
 ghost use Rattle.reasons.specs.Reasons.{nextReason, callReason};
-use crate::Reason;
 use crate::kinds;
 use group::Group;
+use reasons::Reason;
 
 // The largest number of eight bytes.
 const LARGEST: u64 = 18446744073709551615;

@@ -1,7 +1,7 @@
 -- `b4_found` meets its contract. Assumes nothing.
 use borrow.Author.Needs.{needs}
-use Rattle.reasons.proofs.entries.b4_found.Statement.{statement}
-use Rattle.reasons.proofs.entries.b4_found.Tie as tie
+use Rattle.finding.proofs.entries.b4_found.Statement.{statement}
+use Rattle.finding.proofs.entries.b4_found.Tie as tie
 
 pub b4-found-spec : {M : Type 1} → statement M
 b4-found-spec =

@@ -1,7 +1,7 @@
 -- `kind_found` meets its contract: by what the flag means. Assumes nothing.
 use borrow.Author.Needs.{needs}
-use Rattle.reasons.proofs.kinds.kind_found.Statement.{statement}
-use Rattle.reasons.proofs.kinds.kind_found.Tie as tie
+use Rattle.finding.proofs.kinds.kind_found.Statement.{statement}
+use Rattle.finding.proofs.kinds.kind_found.Tie as tie
 
 pub kind-found-spec : {M : Type 1} → statement M
 kind-found-spec =

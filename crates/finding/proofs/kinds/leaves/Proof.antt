@@ -1,7 +1,7 @@
 -- `leaves` meets its contract, kind by kind. Assumes nothing.
 use borrow.Author.Needs.{needs}
-use Rattle.reasons.proofs.kinds.leaves.Statement.{statement}
-use Rattle.reasons.proofs.kinds.leaves.Tie as tie
+use Rattle.finding.proofs.kinds.leaves.Statement.{statement}
+use Rattle.finding.proofs.kinds.leaves.Tie as tie
 
 pub leaves-spec : {M : Type 1} → statement M
 leaves-spec =

@@ -1,9 +1,9 @@
 -- `call_reason` meets its contract: the reason of each number. Assumes nothing.
 use borrow.Author.Needs.{needs}
 use borrow.Author.Tests.{ne-eqb}
 use Rattle.reasons.specs.Reasons.{callReason}
-use Rattle.reasons.proofs.call.call_reason.Statement.{statement}
-use Rattle.reasons.proofs.call.call_reason.Tie as tie
+use Rattle.finding.proofs.call.call_reason.Statement.{statement}
+use Rattle.finding.proofs.call.call_reason.Tie as tie
 
 pub call-reason-spec : {M : Type 1} → statement M
 unfolding callReason

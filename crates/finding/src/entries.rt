@@ -2,12 +2,12 @@
 ghost use mathlib.Core.Path.{_≡_};
 ghost use Rattle.group.specs.Sizes.{entryOffset};
 ghost use Rattle.group.specs.Flags.{b4Of};
 ghost use Rattle.reasons.specs.Reasons.{b4Found, stop, entryReason};
-use crate::Reason;
 use crate::kinds;
 use entry::Cursor;
 use group::Entry;
 use group::Group;
+use reasons::Reason;
 
 // Where entry k of a group stands; 0 where the group is too small for it.
 pub fn entry_offset(size: u32, place: u32) -> u32
