@@ -1,5 +1,5 @@
-// Change request 2026-07: why a read refuses: the rule that is broken first, where, what was found there and what is allowed. None
-// of these functions requires anything.
+// Change request 2026-07: why a read refuses: the rule that is broken first, where, what was found there and what is allowed. What is
+// public requires nothing.
 mod plain;
 
 ghost use mathlib.Core.Path.{_≡_};
