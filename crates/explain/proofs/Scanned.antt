@@ -24,7 +24,7 @@ use Rattle.explain.specs.Truth.{Keeps, Breaks, Stops, stopAt}
 use Rattle.explain.specs.Truth.Keeps.{keeps-none, keeps-more}
 use Rattle.explain.specs.Truth.Stops.{stops-here, stops-later}
 use Rattle.reasons.proofs.Order.{in-order}
-use Rattle.reasons.proofs.Numbers.{broken-by, allowed-by}
+use Rattle.reasons.proofs.Numbers.{found-there, broken-by, allowed-by}
 
 -- The first rule of some that an entry breaks, or that it keeps them all.
 data Found (at : Stop) (e : Entry) (rules : List Rule) : ℕ → Type 0 where
@@ -78,7 +78,7 @@ module _ {size limit : ℕ} (es : List Entry) (place : ℕ) (c : Cursor) (e : En
   here (all-kept k) h = absurd (h refl)
   here (broke rule earlier later o k b) h =
       let breaks : Breaks (stopAt size limit es c) e rule (reasonAt rule (stopAt size limit es c) e) =
-      record { earlier = earlier; later = later; ordered = o; kept = k; broken = b; numbers = broken-by (stopAt size limit es c) e rule b; allows = allowed-by (stopAt size limit es c) e rule b } in
+      record { earlier = earlier; later = later; ordered = o; kept = k; broken = b; found = found-there rule (stopAt size limit es c) e; numbers = broken-by (stopAt size limit es c) e rule b; allows = allowed-by (stopAt size limit es c) e rule b } in
       rw (reason-of rule (stopAt size limit es c) e) (stops-here breaks)
 
   kept-all : {number : ℕ} → Found (stopAt size limit es c) e inOrder number → number ≡ 0 → Keeps (stopAt size limit es c) e inOrder

@@ -21,7 +21,7 @@ use Rattle.reasons.specs.declared.Reason.{Reason}
 use Rattle.explain.specs.declared.Explanation.{Explanation}
 use Rattle.reasons.specs.Rules.{Rule, Stop, inOrder, ruleNumber, keeps}
 use Rattle.reasons.specs.Reasons.{reason, noReason, largest}
-use Rattle.reasons.specs.Truth.{allowed, BrokenBy, AllowedBy}
+use Rattle.reasons.specs.Truth.{allowed, foundAt, BrokenBy, AllowedBy}
 use Rattle.explain.specs.Explanation.{explanation, noRefusal}
 
 -- An entry keeps each of some rules.
@@ -29,13 +29,14 @@ pub data Keeps (at : Stop) (e : Entry) : List Rule → Type 0 where
   keeps-none : Keeps at e []
   keeps-more : {rule : Rule} {rules : List Rule} → keeps rule at (meaningOf (e .flag)) (e .count) ≡ true → Keeps at e rules → Keeps at e (rule ∷ rules)
 
--- An entry breaks a rule by these numbers, and keeps every rule that comes before it in the order.
+-- An entry breaks a rule by these numbers, of which the one found is its own, and keeps every rule that comes before it in the order.
 pub record Breaks (at : Stop) (e : Entry) (rule : Rule) (r : Reason) : Type 0 where
   pub earlier : List Rule
   pub later : List Rule
   pub ordered : inOrder ≡ earlier ++ (rule ∷ later)
   pub kept : Keeps at e earlier
   pub broken : keeps rule at (meaningOf (e .flag)) (e .count) ≡ false
+  pub found : r .found ≡ foundAt rule at e
   pub numbers : BrokenBy rule r
   pub allows : AllowedBy rule at (meaningOf (e .flag)) r
 

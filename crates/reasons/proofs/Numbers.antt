@@ -26,7 +26,7 @@ use Rattle.reasons.specs.declared.Reason.{Reason}
 use Rattle.reasons.specs.Rules.{Rule, Stop, keeps, kindKeeps}
 use Rattle.reasons.specs.Rules.Rule.{flagKnown, b4Stays, kindFollows, partNotEmpty, separatorValue, recordLength, totalSum, dataWithin, skipCount, totalInTime}
 use Rattle.reasons.specs.Reasons.{reason, b4Found, leaves, permitted, reasonAt}
-use Rattle.reasons.specs.Truth.{allowed, isPermitted, BrokenBy, AllowedBy}
+use Rattle.reasons.specs.Truth.{allowed, isPermitted, foundAt, BrokenBy, AllowedBy}
 
 -- Two tests that follow from each other are the same; and a number that is not between two.
 pub same-test : (a b : Bool) → (a ≡ true → b ≡ true) → (b ≡ true → a ≡ true) → a ≡ b
@@ -142,6 +142,19 @@ beyond r h = outside (r .least) (r .found) (r .greatest) h
 
 inside-of : (r : Reason) (x : ℕ) → allowed r x ≡ true → (r .least ≤ x) × (x ≤ r .greatest)
 inside-of r x i = within (r .least) x (r .greatest) i
+
+-- What is told as found is what the entry has.
+pub found-there : (rule : Rule) (at : Stop) (e : Entry) → reasonAt rule at e .found ≡ foundAt rule at e
+found-there flagKnown at e = refl
+found-there b4Stays at e = refl
+found-there kindFollows at e = refl
+found-there partNotEmpty at e = refl
+found-there separatorValue at e = refl
+found-there recordLength at e = refl
+found-there totalSum at e = refl
+found-there dataWithin at e = refl
+found-there skipCount at e = refl
+found-there totalInTime at e = refl
 
 -- "the rule is broken there by those numbers"
 module _ (at : Stop) (e : Entry) where

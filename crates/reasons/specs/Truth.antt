@@ -6,16 +6,17 @@ use mathlib.Core.Bool.{Bool, true, false}
 use mathlib.Core.Path.{_≡_}
 use lib.Dec.{eqb}
 use Rattle.numbers.specs.Numbers.{between}
+use Rattle.group.specs.declared.Entry.{Entry}
 use Rattle.group.specs.declared.Kind.{Kind}
 use Rattle.group.specs.declared.Meaning.{Meaning}
 use Rattle.group.specs.declared.Meaning.the-variants.{Unknown}
 use Rattle.group.specs.Sizes.{longestRecord}
-use Rattle.group.specs.Flags.{kindNumber, meaningOf}
+use Rattle.group.specs.Flags.{kindNumber, meaningOf, b4Of}
 use Rattle.entry.specs.Rules.{b4Kept, followKept}
 use Rattle.reasons.specs.declared.Reason.{Reason}
 use Rattle.reasons.specs.Rules.{Rule, Stop, keeps}
 use Rattle.reasons.specs.Rules.Rule.{flagKnown, b4Stays, kindFollows, partNotEmpty, separatorValue, recordLength, totalSum, dataWithin, skipCount, totalInTime}
-use Rattle.reasons.specs.Reasons.{b4Found}
+use Rattle.reasons.specs.Reasons.{b4Found, kindFound}
 
 -- A number is from the least to the greatest allowed.
 abbrev pub allowed : Reason → ℕ → Bool
@@ -24,6 +25,19 @@ allowed r x = between (r .least) x (r .greatest)
 -- A kind, by its number, is among the permitted kinds.
 abbrev pub isPermitted : Reason → (kind : ℕ) → Bool
 isPermitted r kind = eqb (r .kinds / 2 ^ (kind - 1) % 2) 1
+
+-- What is found at an entry: "for 8 the flag, 9 bit b4 .., 10 the kind, 12 the data's end .., else the .. count at fault".
+abbrev pub foundAt : Rule → Stop → Entry → ℕ
+foundAt flagKnown at e = e .flag
+foundAt b4Stays at e = b4Found (b4Of (e .flag))
+foundAt kindFollows at e = kindFound (meaningOf (e .flag))
+foundAt partNotEmpty at e = e .count
+foundAt separatorValue at e = e .count
+foundAt recordLength at e = e .count
+foundAt totalSum at e = e .count
+foundAt dataWithin at e = at .here .reached + e .count
+foundAt skipCount at e = e .count
+foundAt totalInTime at e = e .count
 
 -- "the rule is broken there by those numbers": the flag has no meaning, the kind is not permitted, the number is not allowed.
 abbrev pub BrokenBy : Rule → Reason → Type 0

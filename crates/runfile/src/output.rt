@@ -1,4 +1,4 @@
-// What is written to standard output: each step's text in one write. What it is, is proved in `telling`.
+// What is written to standard output: each step's text in one write. What it is, is proved in `telling` and `explaining`.
 use libc::STDOUT_FILENO;
 ghost use Prim.Native.Nat.{_≤_};
 ghost use lib.ListN.{length};
