@@ -1,7 +1,7 @@
 /* dds.h: writing and reading the Basic Groups and the Sub Data Blocks of DDS tapes, their third code, and an AIT loader's
    memory, called from C. This is the reference of every call; docs/C-INTERFACE.md says what is about more than one.
 
-   Nineteen calls on plain numbers and lent byte slices. A slice is a pointer and a length in bytes. Every number inside a
+   Twenty-two calls on plain numbers and lent byte slices. A slice is a pointer and a length in bytes. Every number inside a
    slice is four bytes, most significant first; dds_number below reads one. The explanation of dds_explain alone has numbers of
    eight bytes, most significant first too; dds_long_number reads one. Each call returns the refusal number, DDS_ACCEPTED if it
    was accepted. The library keeps nothing between calls, allocates nothing and calls nothing but memset and memcpy.
@@ -33,13 +33,13 @@ extern "C" {
 
 /* ---- Version
 
-   How many change requests have landed, then the last of them, as one decimal number: 9, and 2026-07. Each landing makes it
+   How many change requests have landed, then the last of them, as one decimal number: 10, and 2026-09. Each landing makes it
    greater, so it compares, also where a request of a lower number lands later. Header and archive of one build belong together.
 
    States are not kept across versions: in another a state may have other fields or another length. A run is ended before the
    change, or started anew after it. */
 
-#define DDS_VERSION 9202607u
+#define DDS_VERSION 10202609u
 
 /* ---- Sizes */
 
@@ -64,6 +64,7 @@ extern "C" {
 
 #define DDS_READER_LEN 24u             /* a reader's state */
 #define DDS_WRITER_LEN 32u             /* a writer's state */
+#define DDS_BLOCKS_STATE_LEN 28u       /* the state of a reader of blocks of one size */
 #define DDS_ANSWER_LEN 24u             /* the answer, the same for every call but dds_explain, which has none */
 #define DDS_ROW_LEN    12u             /* one row; a read of n entries needs n rows at least */
 #define DDS_EXPLANATION_LEN 56u        /* the explanation of dds_explain */
@@ -80,7 +81,8 @@ extern "C" {
 #define DDS_FIELDS_LEN 37u             /* its fields, all of it that is not reserved */
 #define DDS_ALERT_LEN  8u              /* Tape Alert flags 1 to 64 */
 
-/* ---- Fields of a state. Both begin with the same four. A reader has two numbers behind them, a writer four. */
+/* ---- Fields of a state. All begin with the same four. A reader has two numbers behind them, a writer four. A reader of blocks
+   has a reader's state, and the block size behind it. */
 
 #define DDS_STATE_SIZE    0u           /* group size L */
 #define DDS_STATE_NEXT    4u           /* next number, 1 to 65,536; at 65,536 no number remains */
@@ -89,6 +91,7 @@ extern "C" {
 
 #define DDS_READER_B4       16u        /* of a reader: b4, 0 clear, 1 set */
 #define DDS_READER_ACCEPTED 20u        /* 0: no group was accepted in this run; 1: one was, and the last has number next - 1 */
+#define DDS_READER_BLOCK    24u        /* of a reader of blocks: the block size, 1 to 16,777,215 */
 
 #define DDS_STATE_DATA    16u          /* of a writer: data bytes in the open group */
 #define DDS_STATE_ENTRIES 20u          /* entries in the open group */
@@ -102,11 +105,14 @@ extern "C" {
 /* ---- Fields of the answer */
 
 #define DDS_ANSWER_REFUSAL 0u          /* the number the call returns too */
-#define DDS_ANSWER_PLACE   4u          /* refusals 8 to 13 and 19 to 23: the entry, from 1; 31 to 34: the block; 43: the column */
+#define DDS_ANSWER_PLACE   4u          /* refusals 8 to 13, 19 to 23, 51: the entry, from 1; 31 to 34: block; 43: column */
 #define DDS_ANSWER_OUTCOME 8u          /* DDS_OUTCOME_.. */
 #define DDS_ANSWER_NUMBER  12u         /* at a close: the closed group's number */
 #define DDS_ANSWER_ENTRIES 16u         /* at a close: its entry count, an owed total and the skip counted */
 #define DDS_ANSWER_TAKEN   20u         /* at a close: how many of the offered data bytes were taken */
+
+/* what dds_blocks_find answers at byte 12 */
+#define DDS_ANSWER_OFFSET    12u       /* the offset in the row with which the block begins */
 
 /* what an accepted call on the flags, and an accepted search, answer from byte 8 on */
 #define DDS_ANSWER_RAISED    8u        /* flags: how many are raised */
@@ -118,7 +124,9 @@ extern "C" {
 
 #define DDS_OUTCOME_FINISHED 0u        /* the work is done and no group was closed; number, entries and taken are 0 */
 #define DDS_OUTCOME_CLOSED   1u        /* a group was closed */
-#define DDS_OUTCOME_REPEAT   2u        /* dds_read: the last accepted group once more; nothing was read, and the rows stay */
+#define DDS_OUTCOME_REPEAT   2u        /* both reads: the last accepted group once more; nothing was read, and the rows stay */
+#define DDS_OUTCOME_ELSEWHERE 0u       /* dds_blocks_find: the block does not begin in these rows; the offset is 0 */
+#define DDS_OUTCOME_BEGINS   1u        /* dds_blocks_find: it begins there */
 #define DDS_OUTCOME_BROKEN   1u        /* dds_third_check: some column breaks a rule; 0 where every one keeps both */
 #define DDS_OUTCOME_TYPE_A   0u        /* Volume Information: thickness 00 */
 #define DDS_OUTCOME_TYPE_B   1u        /* Volume Information: thickness 01 */
@@ -247,6 +255,8 @@ extern "C" {
 #define DDS_REFUSED_ROW           41u  /* a row above 45: restore */
 #define DDS_REFUSED_SAME_ROW      42u  /* the same row twice: restore of two rows */
 #define DDS_REFUSED_HOPELESS      43u  /* a column that no single change mends: mend, at the first such column */
+#define DDS_REFUSED_BLOCK_SIZE    50u  /* block size outside 1 to 16,777,215: start of a reader of blocks */
+#define DDS_REFUSED_BLOCK_LENGTH  51u  /* an entire record or a total that is not the block size: read of blocks, at an entry */
 #define DDS_REFUSED_AIT_LENGTH    60u  /* a slice's length is not its own, or received bytes above 2^32 - 1: the AIT calls */
 #define DDS_REFUSED_RESERVED      61u  /* a reserved byte is not zero: read of a volume */
 #define DDS_REFUSED_THICKNESS     62u  /* thickness 10 or 11: make, read of a volume */
@@ -380,6 +390,53 @@ uint32_t dds_read(uint8_t *state, size_t state_len, const uint8_t *group, size_t
 
 uint32_t dds_explain(const uint8_t *state, size_t state_len, const uint8_t *group, size_t group_len, uint32_t number,
                      uint32_t entries, const uint8_t *rows, size_t rows_len, uint8_t *explanation, size_t explanation_len);
+
+/* ---- Blocks of one size
+
+   For computers that write records of one length alone, the block size, and seek by block number. A run is read by
+   dds_blocks_read in place of dds_read, from a state of its own kind; to find a block only the rows are needed. */
+
+/* Starts a reader of blocks: as dds_reader_start, with a block size.
+   block   the length of every record, DDS_RECORD_MOST at most and 1 at least
+   state   DDS_BLOCKS_STATE_LEN bytes; what they hold does not matter
+
+   Accepted: the first DDS_READER_LEN bytes of the state are filled as dds_reader_start fills them, and the block size behind
+   them. The answer is zeros. Refused: the state slice stays as it was.
+   Refusals in order: 1 by length, 2, 3, 50. */
+uint32_t dds_blocks_start(uint32_t size, uint32_t first, uint32_t block, uint8_t *state, size_t state_len, uint8_t *answer,
+                          size_t answer_len);
+
+/* Reads one group as dds_read does: the same rows, the same repeats, the same refusals in the same order, and the block size
+   stays as it is in the state. One rule comes last at each entry: the count of an entire record, and of a total, is the block
+   size, or is 51. Separators are free. A start, a middle or a last is not compared: a record that is spanned is judged when
+   its total comes, so its parts may be longer than the block until then, and a run may end in a record that is broken off and
+   longer than the block.
+   state    DDS_BLOCKS_STATE_LEN bytes, as the start or the last read left them; where its block size is 0 or above
+            DDS_RECORD_MOST it is not sound
+
+   Refusals in order: 1, 4; here a repeat is told; 5, 6, 7; then entry by entry from 1, and at one entry 8, 9, 10, one of 19
+   to 22, 12, 13, 23, 51. So 51 at an entry comes before every refusal at a later one, and a total that is neither its sum nor
+   the block size is 22. Lent the first DDS_READER_LEN bytes of the state, dds_explain says why, but where the refusal is 51:
+   then it tells what dds_read does, which knows no block size. */
+uint32_t dds_blocks_read(uint8_t *state, size_t state_len, const uint8_t *group, size_t group_len, uint32_t number,
+                         uint32_t entries, uint8_t *rows, size_t rows_len, uint8_t *answer, size_t answer_len);
+
+/* Finds where a block begins. Blocks are numbered from 0 as they begin, through the whole run.
+   rows    the rows of one group, DDS_ROW_LEN bytes an entry and no more: rows that an earlier group left behind them would be
+           counted too. Any bytes of any length are taken. Up to 11 bytes at the end are no row and count nothing
+   before  how many blocks begin in the groups before this one
+   block   the number of the block
+
+   Rows of kinds DDS_KIND_START and DDS_KIND_ENTIRE begin a block, one each; rows of any other number begin none.
+   DDS_OUTCOME_BEGINS: the block begins in these rows, and the answer has the offset of its row: there its first bytes stand
+   in the group, and the row's count says how many.
+   DDS_OUTCOME_ELSEWHERE: it does not. A block below `before` begins in an earlier group. Nothing wraps where `before` and the
+   rows come to more than 2^32 - 1 blocks.
+   To go through a run, add to `before` the rows of these two kinds of each group that was accepted; a repeat has no rows and
+   adds none. A block that is spanned is found where it begins; its other parts are rows 3 and 5 of the groups behind.
+   Refusals: 1 by the answer's length. */
+uint32_t dds_blocks_find(const uint8_t *rows, size_t rows_len, uint32_t before, uint32_t block, uint8_t *answer,
+                         size_t answer_len);
 
 /* ---- Writing
 

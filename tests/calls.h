@@ -36,6 +36,11 @@ enum { BY_RULE, AT_LEAST, ANY_LENGTH }; /* the right length follows from other a
     CALL(EXPLAIN, explain, "number, entries", (S(STATE), S(GROUP), N(0), N(1), S(ROWS), S(EXPLANATION)), \
          { STATE, CONST, DDS_READER_LEN, 1 }, { GROUP, CONST, BY_RULE, 4 }, { ROWS, UNREAD, AT_LEAST, 7 }, \
          { EXPLANATION, WRITTEN, DDS_EXPLANATION_LEN, 24 }) \
+    CALL(BLOCKS_START, blocks_start, "size, first, block", (N(0), N(1), N(2), S(STATE), S(ANSWER)), \
+         { STATE, WRITTEN, DDS_BLOCKS_STATE_LEN, 1 }, ANSWERED) \
+    CALL(BLOCKS_READ, blocks_read, "number, entries", (S(STATE), S(GROUP), N(0), N(1), S(ROWS), S(ANSWER)), \
+         { STATE, WRITTEN, DDS_BLOCKS_STATE_LEN, 1 }, { GROUP, CONST, BY_RULE, 4 }, { ROWS, WRITTEN, AT_LEAST, 7 }, ANSWERED) \
+    CALL(BLOCKS_FIND, blocks_find, "before, block", (S(ROWS), N(0), N(1), S(ANSWER)), { ROWS, CONST, ANY_LENGTH, 0 }, ANSWERED) \
     CALL(RECORD, record, "warn", (S(STATE), S(GROUP), S(DATA), N(0), S(ANSWER)), \
          { STATE, WRITTEN, DDS_WRITER_LEN, 1 }, { GROUP, WRITTEN, BY_RULE, 4 }, { DATA, CONST, ANY_LENGTH, 0 }, ANSWERED) \
     CALL(SEPARATOR, separator, "value, warn", (S(STATE), S(GROUP), N(0), N(1), S(ANSWER)), \

@@ -109,7 +109,7 @@ static void of_other_lengths(const example *e, const worked *w)
     for (s = calls[e->call].slices; s->which; s++) {
         const size_t right = w->len[s->which];
         const size_t lengths[] = { 0, 1, 4, 8, right / 2, right - 4, right - 1, right + 1, right + 4, right + 5, 2 * right,
-            DDS_READER_LEN, DDS_WRITER_LEN, DDS_EXPLANATION_LEN, right + 256, right + 65536 };
+            DDS_READER_LEN, DDS_BLOCKS_STATE_LEN, DDS_WRITER_LEN, DDS_EXPLANATION_LEN, right + 256, right + 65536 };
         for (i = 0; i < sizeof lengths / sizeof *lengths && s->length != ANY_LENGTH; i++)
             for (null = 0; null < (i == 0 ? 2 : 1); null++) {
                 desk d = lay(e, w, 0);
@@ -132,7 +132,7 @@ static void of_long_lengths(const example *e, const worked *w, uint8_t *promised
     const lent_slice *s;
     size_t i;
     for (s = calls[e->call].slices; s->which && promised; s++) {
-        const size_t more[] = { w->len[s->which], 0, 16, 20, 24, 32, 56, 64 };
+        const size_t more[] = { w->len[s->which], 0, 16, 20, 24, 28, 32, 56, 64 };
         for (i = 0; i < sizeof more / sizeof *more && s->length != ANY_LENGTH && s->length != AT_LEAST; i++) {
             desk d = lay(e, w, 0);
             give_back(&d.of[s->which]);
@@ -150,7 +150,8 @@ static void of_long_lengths(const example *e, const worked *w, uint8_t *promised
 /* whether the answer alone is written */
 static int answers_alone(const example *e, const worked *w)
 {
-    return told_after(e, w) != 0 || (e->call == READ && get(w->after[ANSWER] + DDS_ANSWER_OUTCOME) == DDS_OUTCOME_REPEAT);
+    const int reading = e->call == READ || e->call == BLOCKS_READ;
+    return told_after(e, w) != 0 || (reading && get(w->after[ANSWER] + DDS_ANSWER_OUTCOME) == DDS_OUTCOME_REPEAT);
 }
 
 static void fence_in(const example *e, const worked *w, int at_end, int alone, span *spans)

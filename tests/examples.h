@@ -23,6 +23,7 @@ typedef struct {
                "A8 EC 44 EE*24 00*8, 00 8D 8D EE*32, A8 FE 56 EE*32, 00 8F 8F EE*32"
 #define TWO_BLOCKS "00*3 05 00*3 07 00*3 03 00*4, 00*3 06 00*3 08 00*3 04 00*4,"
 #define ITEM_NUMBERS TWO_BLOCKS TWO_BLOCKS TWO_BLOCKS TWO_BLOCKS TWO_BLOCKS TWO_BLOCKS TWO_BLOCKS TWO_BLOCKS
+#define BEGINNING_ROWS "00*3 05 EE*8, 00*3 01 EE*8, 00*3 06 00*3 06 EE*4, 00*3 02 EE*8, 00*3 04 00*3 13 EE*4, EE*11"
 #define WRITTEN_ROWS "00*215 01*5 03*5 02*5" /* 46 rows of 5 bytes; 01 in row 43 alone has check bytes 03 and 02, as in third.c */
 #define FIELD_BYTES "01 02 2E 10 03 A0-BF"
 #define VOLUME_BYTES "00*3 01 02 2E 10 03 A0-BF 00*32"
@@ -85,6 +86,40 @@ static const example examples[] = {
         { 0, "00" } } },
     { EXPLAIN, { 3, 0 }, { 65536, 1 }, 5, { { "00*3 40 00 01 00*2 00*3 02 00*3 2D 00*3 01 00*3 01", 0 }, { "EE*64", 0 },
         { 0, 0 }, { 0, "00*7 05 00*16 00*7 03 00*7 01" } } },
+    /* starts of blocks, and one whose block size is out of range; the wrong numbers are refused with 50, 3 and 2 */
+    { BLOCKS_START, { 64, 0x1234, 9 }, { 64, 1, 0 }, 50, { { 0, "00 00 00 40 00 00 12 34 00*16 00 00 00 09" }, { 0, "00" } } },
+    { BLOCKS_START, { 126632, 65535, 16777215 }, { 64, 0, 0 }, 3, { { 0, "00 01 EE A8 00 00 FF FF 00*16 00 FF FF FF" },
+        { 0, "00" } } },
+    { BLOCKS_START, { 64, 1, 16777216 }, { 63, 0, 16777216 }, 2, { { 0, 0 }, { 0, "00 00 00 32" } } },
+    /* an entire record of the block size, and one of another length behind it; a start that is longer than the block; the total
+       of P5, owed, which is the block size and which is not; the total of P4, which is not its sum; a repeat */
+    { BLOCKS_READ, { 7, 2 }, { 6, 0 }, 5, {
+        { "00*3 40 00*3 07 00*16 00*3 09", "00*3 40 00*3 08 00*12 00*3 01 00*3 09" },
+        { "EE*24 80 00 00 37 63 00 00 09 EE*32", 0 },
+        { "EE*24", "00*3 06 00*4 00*3 09 00*3 07 00*3 09 00*3 37" }, { 0, "00" } } },
+    { BLOCKS_READ, { 7, 3 }, { 7, 9 }, 6, { { "00*3 40 00*3 07 00*16 00*3 09", 0 },
+        { "EE*20 80 00 00 2F 63 00 00 08 63 00 00 09 EE*32", 0 }, { "EE*36", 0 }, { 0, "00 00 00 33 00 00 00 02" } } },
+    { BLOCKS_READ, { 1, 2 }, { 2, 9 }, 5, {
+        { "00*3 40 00*3 01 00*16 00*3 09", "00*3 40 00*3 02 00*3 01 00*3 18 00*4 00*3 01 00*3 09" },
+        { "EE*24 80 00 00 28 42 00 00 18 EE*32", 0 },
+        { "EE*24", "00*3 04 00*4 00*3 18 00*3 07 00*3 18 00*3 28" }, { 0, "00" } } },
+    { BLOCKS_READ, { 3, 2 }, { 3, 0 }, 6, {
+        { "00*3 40 00*3 03 00*3 02 00*3 2D 00*4 00*3 01 00*3 2D", "00*3 40 00*3 04 00*12 00*3 01 00*3 2D" },
+        { "EE*24 80 00 00 40 01 00 00 2D EE*32", 0 },
+        { "EE*24", "00*3 01 00*4 00*3 2D 00*3 07 00*4 00*3 40" }, { 0, "00" } } },
+    { BLOCKS_READ, { 3, 2 }, { 4, 2 }, 5, { { "00*3 40 00*3 03 00*3 02 00*3 2D 00*4 00*3 01 00*3 2C", 0 },
+        { "EE*24 80 00 00 40 01 00 00 2D EE*32", 0 }, { "EE*24", 0 }, { 0, "00 00 00 33 00 00 00 01" } } },
+    { BLOCKS_READ, { 2, 3 }, { 2, 0 }, 6, { { "00*3 40 00*3 02 00*3 01 00*3 18 00*4 00*3 01 00*3 2B", 0 },
+        { "EE*20 80 00 00 2C 01 00 00 2B 60 00 00 14 EE*32", 0 }, { "EE*36", 0 }, { 0, "00 00 00 16 00 00 00 02" } } },
+    { BLOCKS_READ, { 1, 2 }, { 0, 2 }, 5, { { "00*3 40 00*3 02 00*3 01 00*3 18 00*4 00*3 01 00*3 09", 0 }, { "EE*64", 0 },
+        { 0, 0 }, { 0, "00*8 00 00 00 02" } } },
+    /* rows of a last, a total, an entire record, a separator and a start, and 11 bytes: blocks 7 and 8 begin, 6 and 9 do not; no
+       row at all */
+    { BLOCKS_FIND, { 7, 7 }, { 0 }, 0, { { BEGINNING_ROWS, 0 }, { 0, "00*8 00 00 00 01 00 00 00 06" } } },
+    { BLOCKS_FIND, { 7, 8 }, { 0 }, 0, { { BEGINNING_ROWS, 0 }, { 0, "00*8 00 00 00 01 00 00 00 13" } } },
+    { BLOCKS_FIND, { 7, 6 }, { 0 }, 0, { { BEGINNING_ROWS, 0 }, { 0, "00" } } },
+    { BLOCKS_FIND, { 7, 9 }, { 0 }, 0, { { BEGINNING_ROWS, 0 }, { 0, "00" } } },
+    { BLOCKS_FIND, { 0, 0 }, { 0 }, 0, { { 0, 0 }, { 0, "00" } } },
     /* an entire record of 5; 24 of 44 bytes, which close the group; the 20 that are left, with b4 */
     { RECORD, { 0 }, { 2 }, 1, { { "00*3 40 00*3 07 00*8 00*3 03 00*3 01", "00*3 40 00*3 07 00*8 00*3 08 00*3 02" },
         { "EE*64", "EE*3 01-05 EE*16 63 00 00 05 EE*36" }, { "01-05", 0 }, { 0, "00" } } },

@@ -1,5 +1,6 @@
-/* What the hand-written tests of the calls on groups share: desks with a reader's or a writer's state, the seven calls by short
-   names, tables and data to lend, and the states that are expected. A state is put together here and nowhere else. */
+/* What the hand-written tests of the calls on groups share: desks with a reader's or a writer's state, or that of a reader of
+   blocks, the ten calls by short names, tables and data to lend, and the states that are expected. A state is put together here
+   and nowhere else. */
 
 #ifndef GROUPS_H
 #define GROUPS_H
@@ -20,6 +21,13 @@ static inline void put_reader(uint8_t *state, uint32_t size, uint32_t next, uint
     put(state + DDS_STATE_SUM, sum);
     put(state + DDS_READER_B4, b4);
     put(state + DDS_READER_ACCEPTED, accepted);
+}
+
+static inline void put_blocks(uint8_t *state, uint32_t size, uint32_t next, uint32_t phase, uint32_t sum, uint32_t b4,
+                              uint32_t accepted, uint32_t block)
+{
+    put_reader(state, size, next, phase, sum, b4, accepted);
+    put(state + DDS_READER_BLOCK, block);
 }
 
 static inline void put_writer(uint8_t *state, uint32_t size, uint32_t next, uint32_t phase, uint32_t sum, uint32_t data,
@@ -57,6 +65,16 @@ static inline desk reader(uint32_t size, uint32_t next, uint32_t phase, uint32_t
     return reader_b4(size, next, phase, sum, 0);
 }
 
+/* a desk to read blocks of this size at */
+static inline desk blocks_with(uint32_t size, uint32_t next, uint32_t phase, uint32_t sum, uint32_t b4, uint32_t accepted,
+                               uint32_t block)
+{
+    desk d = desk_for(BLOCKS_READ);
+    relend(&d.of[GROUP], size < 200000 ? size : 64);
+    put_blocks(d.of[STATE].at, size, next, phase, sum, b4, accepted, block);
+    return d;
+}
+
 static inline desk writer(uint32_t size, uint32_t next, uint32_t phase, uint32_t sum, uint32_t data, uint32_t entries,
                           uint32_t b4, uint32_t rest)
 {
@@ -85,6 +103,15 @@ static inline void reader_is_fresh(const desk *d, const char *name, uint32_t siz
 {
     uint8_t wanted[DDS_READER_LEN];
     put_reader(wanted, size, first, 0, 0, 0, 0);
+    check(same_bytes(wanted, sizeof wanted, d->of[STATE].at, d->of[STATE].len), name, "state");
+}
+
+/* the same of a reader of blocks: an accepted group leaves the block size as it is */
+static inline void blocks_are(const desk *d, const char *name, uint32_t size, uint32_t next, uint32_t phase, uint32_t sum,
+                              uint32_t b4, uint32_t block)
+{
+    uint8_t wanted[DDS_BLOCKS_STATE_LEN];
+    put_blocks(wanted, size, next, phase, sum, b4, 1, block);
     check(same_bytes(wanted, sizeof wanted, d->of[STATE].at, d->of[STATE].len), name, "state");
 }
 
@@ -128,6 +155,12 @@ static inline void reader_starts(desk *d, uint32_t size, uint32_t first) { make(
 static inline void writer_starts(desk *d, uint32_t size, uint32_t first) { make(d, WRITER_START, size, first, 0); }
 static inline void reads(desk *d, uint32_t number, uint32_t entries) { make(d, READ, number, entries, 0); }
 static inline void explains(desk *d, uint32_t number, uint32_t entries) { make(d, EXPLAIN, number, entries, 0); }
+static inline void starts_blocks(desk *d, uint32_t size, uint32_t first, uint32_t block)
+{
+    make(d, BLOCKS_START, size, first, block);
+}
+static inline void reads_blocks(desk *d, uint32_t number, uint32_t entries) { make(d, BLOCKS_READ, number, entries, 0); }
+static inline void finds_block(desk *d, uint32_t before, uint32_t block) { make(d, BLOCKS_FIND, before, block, 0); }
 static inline void records(desk *d, uint32_t warn) { make(d, RECORD, warn, 0, 0); }
 static inline void separates(desk *d, uint32_t value, uint32_t warn) { make(d, SEPARATOR, value, warn, 0); }
 static inline void ends(desk *d, uint32_t warn) { make(d, END, warn, 0, 0); }

@@ -1,6 +1,7 @@
 /* The header alone, included first and twice, as C99 and as C++: its constants are the numbers of documents 01 and 02 and the
    fields and lengths of docs/C-INTERFACE.md, its prototypes link, and the library goes by its flags, limits, Pack IDs and by what
-   it says of a repeat and of an explanation. Also what it says of an offer: only the bytes taken are read. */
+   it says of a repeat, of an explanation and of blocks of one size. Also what it says of an offer: only the bytes taken are
+   read. */
 
 #define _DEFAULT_SOURCE /* mmap */
 
@@ -15,18 +16,18 @@ static const struct { const char *name; uint32_t found, wanted; } constants[] = 
 #define IS(name, wanted) { #name, name, wanted },
     IS(DDS_SIZE_LEAST, 64) IS(DDS_SIZE_STANDARD, 126632) IS(DDS_NUMBER_LEAST, 1) IS(DDS_NUMBER_MOST, 65535)
     IS(DDS_RECORD_MOST, 16777215) IS(DDS_INFORMATION_LEN, 32) IS(DDS_ENTRY_LEN, 4)
-    IS(DDS_VERSION, 9202607) IS(DDS_PART_INDEX_LEN, 40)
+    IS(DDS_VERSION, 10202609) IS(DDS_PART_INDEX_LEN, 40)
     IS(DDS_PART_MOST(64), 24) IS(DDS_PART_MOST(126632), 126592)
     IS(DDS_ENTRIES_MOST(64), 8) IS(DDS_ENTRIES_MOST(67), 8) IS(DDS_ENTRIES_MOST(68), 9) IS(DDS_ENTRIES_MOST(126632), 31650)
     IS(DDS_ROWS_LEN(64), 96) IS(DDS_ROWS_LEN(128 >> 1), 96) IS(DDS_PART_MOST(128 >> 1) / 2, 12) IS(DDS_ROWS_LEN(126632), 379800)
-    IS(DDS_READER_LEN, 24) IS(DDS_WRITER_LEN, 32) IS(DDS_ANSWER_LEN, 24) IS(DDS_ROW_LEN, 12)
+    IS(DDS_READER_LEN, 24) IS(DDS_WRITER_LEN, 32) IS(DDS_BLOCKS_STATE_LEN, 28) IS(DDS_ANSWER_LEN, 24) IS(DDS_ROW_LEN, 12)
     IS(DDS_STATE_SIZE, 0) IS(DDS_STATE_NEXT, 4) IS(DDS_STATE_PHASE, 8) IS(DDS_STATE_SUM, 12)
-    IS(DDS_READER_B4, 16) IS(DDS_READER_ACCEPTED, 20)
+    IS(DDS_READER_B4, 16) IS(DDS_READER_ACCEPTED, 20) IS(DDS_READER_BLOCK, 24)
     IS(DDS_STATE_DATA, 16) IS(DDS_STATE_ENTRIES, 20) IS(DDS_STATE_B4, 24) IS(DDS_STATE_REST, 28)
     IS(DDS_PHASE_FREE, 0) IS(DDS_PHASE_INSIDE, 1) IS(DDS_PHASE_OWED, 2)
     IS(DDS_ANSWER_REFUSAL, 0) IS(DDS_ANSWER_PLACE, 4) IS(DDS_ANSWER_OUTCOME, 8) IS(DDS_ANSWER_NUMBER, 12)
     IS(DDS_ANSWER_ENTRIES, 16) IS(DDS_ANSWER_TAKEN, 20) IS(DDS_OUTCOME_FINISHED, 0) IS(DDS_OUTCOME_CLOSED, 1)
-    IS(DDS_OUTCOME_REPEAT, 2)
+    IS(DDS_OUTCOME_REPEAT, 2) IS(DDS_ANSWER_OFFSET, 12) IS(DDS_OUTCOME_ELSEWHERE, 0) IS(DDS_OUTCOME_BEGINS, 1)
     IS(DDS_EXPLANATION_LEN, 56) IS(DDS_EXPLANATION_REFUSAL, 0) IS(DDS_EXPLANATION_PLACE, 8) IS(DDS_EXPLANATION_OFFSET, 16)
     IS(DDS_EXPLANATION_FOUND, 24) IS(DDS_EXPLANATION_LEAST, 32) IS(DDS_EXPLANATION_GREATEST, 40) IS(DDS_EXPLANATION_KINDS, 48)
     IS(DDS_KIND_VALUE(1), 1) IS(DDS_KIND_VALUE(DDS_KIND_SEPARATOR), 2) IS(DDS_KIND_VALUE(DDS_KIND_MIDDLE), 4)
@@ -56,6 +57,7 @@ static const struct { const char *name; uint32_t found, wanted; } constants[] = 
     IS(DDS_REFUSED_OWED_EARLY, 23) IS(DDS_REFUSED_EXPLANATION, 24)
     IS(DDS_REFUSED_LENGTH, 30) IS(DDS_REFUSED_PARITY, 31) IS(DDS_REFUSED_SW1, 32) IS(DDS_REFUSED_SW2, 33)
     IS(DDS_REFUSED_CLOSE, 34)
+    IS(DDS_REFUSED_BLOCK_SIZE, 50) IS(DDS_REFUSED_BLOCK_LENGTH, 51)
     IS(DDS_VOLUME_LEN, 72) IS(DDS_FIELDS_LEN, 37) IS(DDS_ALERT_LEN, 8) IS(DDS_VOLUME_FIELDS, 3)
     IS(DDS_ANSWER_RAISED, 8) IS(DDS_ANSWER_LOWEST, 12) IS(DDS_ANSWER_HIGH, 16) IS(DDS_ANSWER_LOW, 20)
     IS(DDS_ANSWER_PATTERN, 12) IS(DDS_ANSWER_LENGTH_AT, 16)
@@ -221,6 +223,35 @@ static void reads_are_explained(void)
           && dds_number(state, DDS_STATE_NEXT) == 1, "accepted, and the state stays");
 }
 
+/* blocks of nine bytes: an entire record and a start behind a separator; then one of another length. Where each begins. */
+static void blocks_are_found(void)
+{
+    uint8_t state[DDS_BLOCKS_STATE_LEN];
+    check(dds_blocks_start(64, 1, DDS_RECORD_MOST + 1, state, sizeof state, answer, DDS_ANSWER_LEN) == DDS_REFUSED_BLOCK_SIZE,
+          "a block size above the longest record");
+    check(dds_blocks_start(64, 1, 9, state, sizeof state, answer, DDS_ANSWER_LEN) == DDS_ACCEPTED
+          && dds_number(state, DDS_STATE_SIZE) == 64 && dds_number(state, DDS_STATE_NEXT) == 1
+          && dds_number(state, DDS_READER_BLOCK) == 9, "a block size of nine");
+    entry(1, DDS_FLAG_ENTIRE, 9);
+    entry(2, DDS_FLAG_SEPARATOR, DDS_SEPARATOR_1);
+    entry(3, DDS_FLAG_START, 5);
+    entry(4, DDS_FLAG_SKIP, 50);
+    check(dds_blocks_read(state, sizeof state, group, 64, 1, 4, rows, sizeof rows, answer, DDS_ANSWER_LEN) == DDS_ACCEPTED
+          && outcome() == DDS_OUTCOME_FINISHED && dds_number(state, DDS_STATE_PHASE) == DDS_PHASE_INSIDE
+          && dds_number(state, DDS_READER_BLOCK) == 9, "a block, and a start of one");
+    check(dds_blocks_find(rows, 4 * DDS_ROW_LEN, 7, 8, answer, DDS_ANSWER_LEN) == DDS_ACCEPTED && outcome() == DDS_OUTCOME_BEGINS
+          && dds_number(answer, DDS_ANSWER_OFFSET) == 9, "the second of them begins there");
+    check(dds_blocks_find(rows, 4 * DDS_ROW_LEN, 7, 9, answer, DDS_ANSWER_LEN) == DDS_ACCEPTED
+          && outcome() == DDS_OUTCOME_ELSEWHERE && dds_number(answer, DDS_ANSWER_OFFSET) == 0, "the third does not");
+    check(dds_blocks_read(state, sizeof state, group, 64, 1, 4, rows, sizeof rows, answer, DDS_ANSWER_LEN) == DDS_ACCEPTED
+          && outcome() == DDS_OUTCOME_REPEAT, "it is a repeat");
+    entry(1, DDS_FLAG_LAST, 5);
+    entry(2, DDS_FLAG_TOTAL, 10);
+    entry(3, DDS_FLAG_SKIP, 59);
+    check(dds_blocks_read(state, sizeof state, group, 64, 2, 3, rows, sizeof rows, answer, DDS_ANSWER_LEN)
+          == DDS_REFUSED_BLOCK_LENGTH && dds_number(answer, DDS_ANSWER_PLACE) == 2, "a record of ten bytes");
+}
+
 /* a part that fills its group, and both separators as they are laid */
 static void limits_of_writing(void)
 {
@@ -292,6 +323,9 @@ static void prototypes_link(void)
     check(dds_writer_start(64, 1, none, 0, none, 0) == 1, "dds_writer_start");
     check(dds_read(none, 0, none, 0, 1, 1, none, 0, none, 0) == 1, "dds_read");
     check(dds_explain(none, 0, none, 0, 1, 1, none, 0, none, 0) == 24, "dds_explain");
+    check(dds_blocks_start(64, 1, 1, none, 0, none, 0) == 1, "dds_blocks_start");
+    check(dds_blocks_read(none, 0, none, 0, 1, 1, none, 0, none, 0) == 1, "dds_blocks_read");
+    check(dds_blocks_find(none, 0, 0, 0, none, 0) == 1, "dds_blocks_find");
     check(dds_record(none, 0, none, 0, none, 0, 0, none, 0) == 1, "dds_record");
     check(dds_separator(none, 0, none, 0, 0, 0, none, 0) == 1, "dds_separator");
     check(dds_end(none, 0, none, 0, 0, none, 0) == 1, "dds_end");
@@ -319,6 +353,7 @@ int main(void)
     limits_of_reading();
     repeats_are_told();
     reads_are_explained();
+    blocks_are_found();
     limits_of_writing();
     packs_are_allowed();
     reads_what_it_takes();

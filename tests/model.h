@@ -1,7 +1,8 @@
 /* The calls of include/dds.h as plain C implementations of the documents, under the prefix model_: of document 01 on groups
-   (model.c), of change request 2026-07 on why a group is refused (explain_model.c), of change request 2026-01 and source document
-   003, 9.4.9, on a track (track_model.c), of change request 2026-08 on the third code (third_model.c), of change request 2026-11
-   and source document 001 on an AIT loader's memory (loader_model.c).
+   (model.c), of change request 2026-07 on why a group is refused (explain_model.c), of change request 2026-09 on blocks of one
+   size (blocks_model.c), of change request 2026-01 and source document 003, 9.4.9, on a track (track_model.c), of change request
+   2026-08 on the third code (third_model.c), of change request 2026-11 and source document 001 on an AIT loader's memory
+   (loader_model.c).
    Only the tests use them: the library is held against them byte for byte. */
 
 #ifndef MODEL_H
@@ -25,6 +26,12 @@ uint32_t MODEL(read)(uint8_t *state, size_t state_len, const uint8_t *group, siz
                      uint32_t entries, uint8_t *rows, size_t rows_len, uint8_t *answer, size_t answer_len);
 uint32_t MODEL(explain)(const uint8_t *state, size_t state_len, const uint8_t *group, size_t group_len, uint32_t number,
                         uint32_t entries, const uint8_t *rows, size_t rows_len, uint8_t *explanation, size_t explanation_len);
+uint32_t MODEL(blocks_start)(uint32_t size, uint32_t first, uint32_t block, uint8_t *state, size_t state_len, uint8_t *answer,
+                             size_t answer_len);
+uint32_t MODEL(blocks_read)(uint8_t *state, size_t state_len, const uint8_t *group, size_t group_len, uint32_t number,
+                            uint32_t entries, uint8_t *rows, size_t rows_len, uint8_t *answer, size_t answer_len);
+uint32_t MODEL(blocks_find)(const uint8_t *rows, size_t rows_len, uint32_t before, uint32_t block, uint8_t *answer,
+                            size_t answer_len);
 uint32_t MODEL(record)(uint8_t *state, size_t state_len, uint8_t *group, size_t group_len, const uint8_t *data,
                        size_t data_len, uint32_t warn, uint8_t *answer, size_t answer_len);
 uint32_t MODEL(separator)(uint8_t *state, size_t state_len, uint8_t *group, size_t group_len, uint32_t value,

@@ -1,5 +1,5 @@
-/* What the random tests of the calls on groups share, random.c and explain_random.c: numbers near every bound; states sound,
-   nearly sound and garbage; groups random, lawful, spoilt and owing a total; every flag at each place of a scan. */
+/* What the random tests of the calls on groups share, random.c, explain_random.c and blocks_random.c: numbers near every bound;
+   states sound, nearly sound and garbage; groups random, lawful, spoilt and owing a total; every flag at each place of a scan. */
 
 #ifndef RANDOM_GROUPS_H
 #define RANDOM_GROUPS_H

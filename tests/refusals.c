@@ -1,5 +1,6 @@
-/* Every refusal of every call but dds_explain, which explain.c has, and their order: each set of faults that can stand together
-   is tried, and the first in document 01's order must be the one answered. Every slice is compared before and after. */
+/* Every refusal of the reader's and the writer's calls, and their order; explain.c has those of dds_explain, blocks.c those of
+   the calls on blocks of one size. Each set of faults that can stand together is tried, and the first in document 01's order must
+   be the one answered. Every slice is compared before and after. */
 
 #include "groups.h"
 

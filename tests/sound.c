@@ -1,8 +1,31 @@
-/* Readings 5 and 9 to 12, and request 2026-05: which states are sound. A sound state lent with an empty group is refused 4 and
-   another one 1, by a read and by its explanation too, so that each condition is tried on both sides of each of its bounds; then
-   states that no run reaches are served. */
+/* Readings 5 and 9 to 12, and requests 2026-05 and 2026-09: which states are sound. A sound state lent with an empty group is
+   refused 4 and another one 1, by a read and by its explanation too, so that each condition is tried on both sides of each of its
+   bounds; each reader's state also with block sizes in and out of range behind it. Then states that no run reaches are served. */
 
 #include "groups.h"
+
+/* request 2026-09: the reader's state, and a block size of 1 to 16,777,215, to which no sum is bound */
+static void try_blocks(uint32_t sound, uint32_t size, uint32_t next, uint32_t phase, uint32_t sum, uint32_t b4,
+                       uint32_t accepted)
+{
+    static const struct { uint32_t size, sound; } blocks[] = { { 0, 0 }, { 1, 1 }, { 2, 1 }, { 64, 1 }, { 65536, 1 },
+        { 16777214, 1 }, { 16777215, 1 }, { 16777216, 0 }, { 16777217, 0 }, { 0x01000001, 0 }, { 0x80000000, 0 },
+        { 0x80000001, 0 }, { 0xFF000001, 0 }, { 0xFFFFFFFF, 0 } };
+    char name[100];
+    size_t i;
+    desk s = blocks_with(size, next, phase, sum, b4, accepted, 1);
+    relend(&s.of[GROUP], 0);
+    for (i = 0; i < sizeof blocks / sizeof *blocks; i++) {
+        snprintf(name, sizeof name, "blocks of %u, reader %u %u %u %u %u %u", blocks[i].size, size, next, phase, sum, b4,
+                 accepted);
+        put(s.of[STATE].at + DDS_READER_BLOCK, blocks[i].size);
+        reads_blocks(&s, next, 1);
+        refused(&s, name, sound && blocks[i].sound ? 4 : 1, 0);
+        reads_blocks(&s, next - 1, 1);
+        refused(&s, name, sound && blocks[i].sound ? 4 : 1, 0);
+    }
+    leave(&s);
+}
 
 static void try_reader(uint32_t sound, uint32_t size, uint32_t next, uint32_t phase, uint32_t sum, uint32_t b4,
                        uint32_t accepted)
@@ -16,6 +39,7 @@ static void try_reader(uint32_t sound, uint32_t size, uint32_t next, uint32_t ph
     explains(&s, next, 1);
     if (sound) explained(&s, name, 4, 0, 0, 0, size, size, 0); else explained(&s, name, 1, 0, 0, 0, 0, 0, 0);
     leave(&s);
+    try_blocks(sound, size, next, phase, sum, b4, accepted);
 }
 
 static void try_writer(uint32_t sound, uint32_t size, uint32_t next, uint32_t phase, uint32_t sum, uint32_t d, uint32_t e,
@@ -193,6 +217,25 @@ static void served(void)
     s = reader_with(64, 65536, 2, 45, 0, 0);
     reads(&s, 65535, 3);
     refused(&s, "reading 9: no group was accepted, and no number remains", 5, 0);
+    leave(&s);
+    s = blocks_with(64, 1, 1, 16777213, 0, 0, 1); /* no rule binds the sum to the block size */
+    table(&s, LIST(0x40000001, 0x8000003F));
+    reads_blocks(&s, 1, 2);
+    finished(&s, "request 2026-09: blocks of 1, sum 16,777,213");
+    blocks_are(&s, "request 2026-09: blocks of 1, sum 16,777,213", 64, 2, 1, 16777214, 0, 1);
+    table(&s, LIST(0x60000001, 0x01FFFFFF, 0x8000003F));
+    reads_blocks(&s, 2, 3);
+    refused(&s, "request 2026-09: blocks of 1, a total of 16,777,215", 51, 2);
+    put(s.of[STATE].at + DDS_READER_BLOCK, 16777215);
+    reads_blocks(&s, 2, 3);
+    finished(&s, "request 2026-09: blocks of 16,777,215");
+    blocks_are(&s, "request 2026-09: blocks of 16,777,215", 64, 3, 0, 0, 0, 16777215);
+    leave(&s);
+    s = blocks_with(64, 65536, 2, 45, 0, 1, 9);
+    reads_blocks(&s, 65535, 3);
+    repeated(&s, "request 2026-09: a repeat where no number remains");
+    reads_blocks(&s, 65536, 3);
+    refused(&s, "request 2026-09: no number remains", 5, 0);
     leave(&s);
     s = writer(64, 1, 1, 16777214, 0, 0, 0, 1);
     offer(&s, 1);

@@ -1,7 +1,8 @@
 /* For valgrind: no call may decide by bytes that it has no business with. Each worked example is made with memory that was never
    written where its text has bytes LENT: states at a start, answers, explanations, groups but their tables, rows, items, whatever
    is to be made or filled. Then whole runs are written and read back from such memory, each group followed by a repeat that was
-   never written, and each read explained. Without valgrind it shows only that the calls do their work. */
+   never written, and each read explained; and runs of blocks of one size, of which each is found. Without valgrind it shows only
+   that the calls do their work. */
 
 #include "examples.h"
 
@@ -120,6 +121,56 @@ static void run_of(uint32_t size)
     free_all(reading);
 }
 
+/* ---- Runs of blocks */
+
+/* where the last call of the writing closed a group, it is read in blocks and each block that begins in it is found; how many
+   blocks begin up to its end */
+static uint32_t find_closed(span *writing, span *reading, uint32_t before)
+{
+    const uint8_t *answer = writing[ANSWER].at;
+    uint32_t number = get(answer + DDS_ANSWER_NUMBER), entries = get(answer + DDS_ANSWER_ENTRIES), block = before;
+    if (get(answer + DDS_ANSWER_OUTCOME) != DDS_OUTCOME_CLOSED) return before;
+    free(reading[GROUP].at);
+    reading[GROUP] = writing[GROUP];
+    writing[GROUP].at = unwritten(writing[GROUP].len);
+    lend_unwritten(&reading[ROWS], DDS_ROW_LEN * (size_t)entries);
+    returns(DDS_REFUSED_NUMBER, reading, BLOCKS_READ, number + 1, entries, 0);
+    returns(0, reading, BLOCKS_READ, number, entries, 0);
+    do returns(0, reading, BLOCKS_FIND, before, block++, 0);
+    while (get(reading[ANSWER].at + DDS_ANSWER_OUTCOME) == DDS_OUTCOME_BEGINS);
+    lend_unwritten(&reading[GROUP], reading[GROUP].len);
+    returns(0, reading, BLOCKS_READ, number, 0, 0);
+    check(get(reading[ANSWER].at + DDS_ANSWER_OUTCOME) == DDS_OUTCOME_REPEAT, calls[BLOCKS_READ].name, "a repeat");
+    return block - 1;
+}
+
+/* eight blocks of this size over groups of this size, written, read back and found */
+static void blocks_of(uint32_t size, uint32_t block)
+{
+    span writing[SLICES] = { { 0, 0 } }, reading[SLICES] = { { 0, 0 } };
+    uint32_t begun = 0, left = 8;
+    lend_unwritten(&writing[STATE], DDS_WRITER_LEN);
+    lend_unwritten(&reading[STATE], DDS_BLOCKS_STATE_LEN);
+    lend_unwritten(&writing[GROUP], size);
+    returns(0, writing, WRITER_START, size, 1, 0);
+    returns(0, reading, BLOCKS_START, size, 1, block);
+    while (left) {
+        int inside = get(writing[STATE].at + DDS_STATE_PHASE) == DDS_PHASE_INSIDE;
+        uint32_t rest = inside ? get(writing[STATE].at + DDS_STATE_REST) : block;
+        lend_unwritten(&writing[DATA], rest);
+        returns(0, writing, RECORD, left == 2, 0, 0);
+        begun = find_closed(writing, reading, begun);
+        if (get(writing[ANSWER].at + DDS_ANSWER_OUTCOME) == DDS_OUTCOME_FINISHED
+            || get(writing[ANSWER].at + DDS_ANSWER_TAKEN) == rest) left--;
+    }
+    returns(0, writing, END, 0, 0, 0);
+    begun = find_closed(writing, reading, begun);
+    check(begun == 8, "blocks", "each is found");
+    check(get(reading[STATE].at + DDS_STATE_PHASE) == DDS_PHASE_FREE, "blocks", "each is finished");
+    free_all(writing);
+    free_all(reading);
+}
+
 int main(void)
 {
     size_t i;
@@ -127,5 +178,8 @@ int main(void)
     run_of(64);
     run_of(4096);
     run_of(DDS_SIZE_STANDARD);
+    blocks_of(64, 9);
+    blocks_of(64, 45);
+    blocks_of(DDS_SIZE_STANDARD, 100000);
     return finish("undefined");
 }

@@ -1,9 +1,11 @@
-// The exports: one line for each call from C. What each does is said and proved in the crate of its room.
+// The exports: one line for each call from C, but where one call is made of another. What each does is said and proved in the crate of its
+// room.
 ghost use mathlib.Core.Path.{_≡_};
 ghost use mathlib.Core.List.{[], _∷_};
 ghost use Rattle.slices.specs.Call.{left};
 ghost use Rattle.c_reader.specs.Calls.{ddsReaderStart, ddsRead};
 ghost use Rattle.c_explain.specs.Calls.{explains, ddsExplain};
+ghost use Rattle.c_blocks.specs.Calls.{ddsBlocksStart, ddsBlocksRead, ddsBlocksFind};
 ghost use Rattle.c_writer.specs.Calls.{ddsWriterStart, ddsRecord, ddsSeparator, ddsEnd};
 ghost use Rattle.c_track.specs.Calls.{ddsSubdataMake, ddsSubdataRead};
 ghost use Rattle.c_third.specs.Calls.{ddsThirdMake, ddsThirdCheck, ddsThirdRestoreOne, ddsThirdRestoreTwo, ddsThirdMend};
@@ -34,7 +36,9 @@ pub extern "C" fn dds_read(
 ) -> u32
     ensures { λ r. ⌜ left r (now (state .exit) ∷ now (rows .exit) ∷ []) (now (answer .exit)) ≡ ddsRead (now (state .entry)) (now (group .entry)) number entries (now (rows .entry)) (now (answer .entry)) ⌝ }
 {
-    c_reader::read(state, group, number, entries, rows, answer)
+    let first = 0;
+    let behind = group.len();
+    c_reader::read(state, &group[first..behind], number, entries, rows, answer)
 }
 
 // Why a read with these arguments refuses. Nothing but the explanation is written.
@@ -50,6 +54,57 @@ pub extern "C" fn dds_explain(
     ensures { λ r. ⌜ explains r (now (explanation .exit)) ≡ ddsExplain (now (state .entry)) (now (group .entry)) number entries (now (rows .entry)) (now (explanation .entry)) ⌝ }
 {
     c_explain::explain(state, group, number, entries, rows, explanation)
+}
+
+// A fresh reader of blocks of one size, into the state slice.
+#[no_mangle]
+pub extern "C" fn dds_blocks_start(
+    size: u32,
+    first: u32,
+    block: u32,
+    state: &mut [u8],
+    answer: &mut [u8],
+) -> u32
+    ensures { λ r. ⌜ left r (now (state .exit) ∷ []) (now (answer .exit)) ≡ ddsBlocksStart size first block (now (state .entry)) (now (answer .entry)) ⌝ }
+{
+    c_blocks::start(size, first, block, state, answer)
+}
+
+// Reads one group of blocks: its rows, and the state for the next. Where no block refuses it, it is the plain call on the first bytes of the
+// state.
+#[no_mangle]
+pub extern "C" fn dds_blocks_read(
+    state: &mut [u8],
+    group: &[u8],
+    number: u32,
+    entries: u32,
+    rows: &mut [u8],
+    answer: &mut [u8],
+) -> u32
+    ensures { λ r. ⌜ left r (now (state .exit) ∷ now (rows .exit) ∷ []) (now (answer .exit)) ≡ ddsBlocksRead (now (state .entry)) (now (group .entry)) number entries (now (rows .entry)) (now (answer .entry)) ⌝ }
+{
+    let refusal = c_blocks::judge(state, group, number, entries, rows, answer);
+    if refusal != 0 {
+        return refusal;
+    }
+    let first = 0;
+    let behind = states::READER_LENGTH;
+    dds_read(
+        &mut state[first..behind],
+        group,
+        number,
+        entries,
+        rows,
+        answer,
+    )
+}
+
+// Where a block begins, from a group's rows and the number of blocks begun before it.
+#[no_mangle]
+pub extern "C" fn dds_blocks_find(rows: &[u8], before: u32, block: u32, answer: &mut [u8]) -> u32
+    ensures { λ r. ⌜ left r [] (now (answer .exit)) ≡ ddsBlocksFind (now (rows .entry)) before block (now (answer .entry)) ⌝ }
+{
+    c_blocks::find(rows, before, block, answer)
 }
 
 // A fresh writer, into the state slice.

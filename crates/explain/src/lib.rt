@@ -1,7 +1,5 @@
 // Change request 2026-07: why a read refuses: the rule that is broken first, where, what was found there and what is allowed. What is
 // public requires nothing.
-mod plain;
-
 ghost use mathlib.Core.Path.{_≡_};
 ghost use Rattle.reader.specs.Answer.{isRepeat};
 ghost use Rattle.explain.specs.Explanation.{noRefusal, explained};
@@ -70,7 +68,7 @@ impl Explanation {
             };
         }
         let opening = reader::ends::opening(reader);
-        match plain::scan_plainly(group, reader.size, entries, opening) {
+        match plainly::scan_plainly(group, reader.size, entries, opening) {
             ScanEnd::Reached(_) => Explanation::none(),
             ScanEnd::Refused(fault, place, here) => {
                 let offset = entries::entry_offset(reader.size, place);

@@ -13,8 +13,8 @@ use Rattle.entry.specs.Bounds.{Bounded}
 use Rattle.entry.proofs.Faults.{stays}
 use Rattle.scan.specs.Stretch.{scanLeft}
 use Rattle.scan.proofs.Turns.{left-turn, all-left, none-left, stops, goes-on}
-use Rattle.explain.proofs.plain.scan_plainly.Statement.{statement}
-use Rattle.explain.proofs.plain.scan_plainly.Tie as tie
+use Rattle.plainly.proofs.scan_plainly.Statement.{statement}
+use Rattle.plainly.proofs.scan_plainly.Tie as tie
 
 record Held (group : List ℕ) (size entries : ℕ) (first here : Cursor) (left : ℕ) : Type 0 where
   most : left ≤ entries

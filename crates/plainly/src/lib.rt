@@ -1,5 +1,6 @@
-// The scan of a group's table with nothing but the rules. An explanation is in no haste; the quick scan has one caller, the read, so that the
-// compiler builds it into that one.
+// The scan of a group's table with nothing but the rules, for what is in no haste: an explanation, and a group with a block of another
+// length. The quick scan has one caller, the read, so that the compiler builds it into that one. The leaf has a `requires`, on a group that
+// was refused nothing before its scan.
 ghost use mathlib.Core.Path.{_≡_};
 ghost use Prim.Native.Nat.{_-_};
 ghost use Rattle.group.specs.Sizes.{informationLength, entryOffset};
@@ -12,7 +13,7 @@ use entry::rules;
 use group::Group;
 
 // Entry by entry downward from the table's top, stopping at the first that breaks a rule.
-pub(crate) fn scan_plainly(group: &[u8], size: u32, entries: u32, opening: Cursor) -> ScanEnd
+pub fn scan_plainly(group: &[u8], size: u32, entries: u32, opening: Cursor) -> ScanEnd
     requires { ⌜ (Cut (now group) size entries) × Bounded (entryOffset size entries) opening ⌝ }
     ensures { λ r. ⌜ r ≡ scan size (entryOffset size entries) (entriesBelow (now (group .entry)) (size - informationLength) entries) 1 opening ⌝ }
 {

@@ -1,0 +1,2 @@
+-- The laws of the calls on blocks, and the theorems.
+pub mod Laws
