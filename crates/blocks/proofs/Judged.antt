@@ -4,12 +4,12 @@
 use Prim.Native.Nat.{ℕ, _-_, _≤_}
 use native.Mathlib.Omega.{arith}
 use mathlib.Core.Path.{_≡_, refl, sym, ap, _∙_}
-use mathlib.Core.Logic.{_↔_}
+use mathlib.Core.Logic.{_⊎_, inl, inr}
 use mathlib.Core.List.{List}
-use mathlib.Core.Bool.{Bool, true, false, cond, false≢true}
+use mathlib.Core.Bool.{Bool, true, false, cond, not, false≢true}
 use lib.Dec.{eqb}
 use lib.ListN.{length}
-use borrow.Author.Tests.{eqb-true, ne-eqb}
+use borrow.Author.Tests.{eqb-true, eqb-false, ne-eqb}
 use Rattle.group.specs.declared.Entry.{Entry}
 use Rattle.group.specs.Sizes.{informationLength, entryOffset}
 use Rattle.group.specs.Entries.{entriesBelow}
@@ -19,7 +19,7 @@ use Rattle.reader.specs.declared.Reader.{Reader}
 use Rattle.reader.specs.declared.ReadAnswer.{ReadAnswer}
 use Rattle.reader.specs.declared.ReadAnswer.the-variants as answer
 use Rattle.reader.specs.Answer.{opening, isRepeat, readRefusal, groupScan, answered, readCall}
-use Rattle.reader.proofs.Accepted.{accepted, not-refused, never-repeat, read-scanned}
+use Rattle.reader.proofs.Accepted.{accepted, repeated, not-refused, repeat-five, never-repeat, read-scanned}
 use Rattle.blocks.specs.Answer.{blockSizeKept, blocksScan, blocksReadCall}
 use Rattle.blocks.specs.Bounds.{otherAt, unlessOther}
 use Rattle.blocks.proofs.Merged.{stoppedBy, Beside, merged}
@@ -83,3 +83,80 @@ module _ (block : ℕ) (s : Reader) (group : List ℕ) (number n room : ℕ) whe
           ∙ first beside (λ z. h (e ∙ z)) (ap (λ (k : ℕ). stoppedBy k (groupScan s group n)) (sym e) ∙ f)
           ∙ ap (answer.Refused s 51) (sym e)
           ∙ ap (λ (b : Bool). cond b (readCall s group number n room) (answer.Refused s 51 place)) (sym (ne-eqb place 0 h))
+
+-- What the profile accepts, and what it takes for a repeat: beside the plain reader.
+module _ (block : ℕ) (s t : Reader) (group : List ℕ) (number n room : ℕ) where
+  -- It accepts what the plain reader accepts, with the same state, where no entry is of another length.
+  pub accepts-plainly : blocksReadCall block s group number n room ≡ answer.Accepted t → (readCall s group number n room ≡ answer.Accepted t) × (otherIn block s group number n room ≡ 0)
+  unfolding blocksReadCall
+  accepts-plainly e = by (blockSizeKept block) (isRepeat s (length group) number) (eqb (readRefusal s (length group) number n room) 0) refl (beside block s group number n room) e
+    where
+      reached : {k : ℕ} {plain profile : ScanEnd} → groupScan s group n ≡ plain → readRefusal s (length group) number n room ≡ 0 → Beside k plain profile → answered s profile ≡ answer.Accepted t →
+          (readCall s group number n room ≡ answer.Accepted t) × (k ≡ 0)
+      reached {plain = plain} p z (none-other h) a = (sym (read-scanned s group number n room z plain p) ∙ a, h)
+      reached {plain = scanned.Reached c} p z (stopped-before h) a = absurd (false≢true h)
+      reached {plain = scanned.Refused fault place c} p z (stopped-before h) a = let w : _≡_ {A = ℕ} 0 1 = cc in absurd (omega arith)
+      reached p z (other-first some h) a = let w : _≡_ {A = ℕ} 0 1 = cc in absurd (omega arith)
+
+      by : (kept repeat ready : Bool) → eqb (readRefusal s (length group) number n room) 0 ≡ ready → {profile : ScanEnd} → Beside (otherIn block s group number n room) (groupScan s group n) profile →
+          cond (not kept) (answer.Refused s 1 0) (cond repeat (answer.Repeated s) (cond ready (answered s profile) (answer.Refused s (readRefusal s (length group) number n room) 0))) ≡ answer.Accepted t →
+          (readCall s group number n room ≡ answer.Accepted t) × (otherIn block s group number n room ≡ 0)
+      by false repeat ready x b h = let w : _≡_ {A = ℕ} 0 1 = cc in absurd (omega arith)
+      by true true ready x b h = let w : _≡_ {A = ℕ} 0 1 = cc in absurd (omega arith)
+      by true false false x b h = let w : _≡_ {A = ℕ} 0 1 = cc in absurd (omega arith)
+      by true false true x b h = reached refl (eqb-true _ 0 x) b h
+
+  -- A repeat is the plain reader's.
+  pub repeats-plainly : blocksReadCall block s group number n room ≡ answer.Repeated t → readCall s group number n room ≡ answer.Repeated t
+  unfolding blocksReadCall readCall
+  repeats-plainly e = by (blockSizeKept block) (isRepeat s (length group) number) (eqb (readRefusal s (length group) number n room) 0) (blocksScan block s group n) e
+    where
+      by : (kept repeat ready : Bool) (profile : ScanEnd) →
+          cond (not kept) (answer.Refused s 1 0) (cond repeat (answer.Repeated s) (cond ready (answered s profile) (answer.Refused s (readRefusal s (length group) number n room) 0))) ≡ answer.Repeated t →
+          cond repeat (answer.Repeated s) (cond ready (answered s (groupScan s group n)) (answer.Refused s (readRefusal s (length group) number n room) 0)) ≡ answer.Repeated t
+      by false repeat ready profile h = let w : _≡_ {A = ℕ} 0 1 = cc in absurd (omega arith)
+      by true true ready profile h = h
+      by true false true (scanned.Reached c) h = let w : _≡_ {A = ℕ} 0 1 = cc in absurd (omega arith)
+      by true false true (scanned.Refused fault place c) h = let w : _≡_ {A = ℕ} 0 1 = cc in absurd (omega arith)
+      by true false false profile h = let w : _≡_ {A = ℕ} 0 1 = cc in absurd (omega arith)
+
+  module _ (kept : blockSizeKept block ≡ true) where
+    none-early : readCall s group number n room ≡ answer.Accepted t → readRefusal s (length group) number n room ≡ 0
+    none-early e = not-refused s (length group) number n room (accepted s t group number n room e .ready)
+
+    pub plainly-accepts : readCall s group number n room ≡ answer.Accepted t → otherIn block s group number n room ≡ 0 → blocksReadCall block s group number n room ≡ answer.Accepted t
+    plainly-accepts e h = none-differs block s group number n room kept (none-early e) h ∙ e
+
+    pub plainly-repeats : readCall s group number n room ≡ answer.Repeated t → blocksReadCall block s group number n room ≡ answer.Repeated t
+    plainly-repeats e =
+        let r = repeat-five s (length group) number n room (repeated s t group number n room e .0) in
+        before-the-scan block s group number n room kept (λ z. omega arith) ∙ e
+
+    -- "51 another record length": of a group that the plain reader accepts.
+    pub other-refused : readCall s group number n room ≡ answer.Accepted t → (otherIn block s group number n room ≡ 0 → ⊥) →
+        blocksReadCall block s group number n room ≡ answer.Refused s 51 (otherIn block s group number n room)
+    other-refused e h =
+        let p = accepted s t group number n room e in
+        other-told block s group number n room kept (none-early e) (otherIn block s group number n room) refl h (ap (stoppedBy (otherIn block s group number n room)) (p .reached))
+        ∙ ap (λ (b : Bool). cond b (readCall s group number n room) (answer.Refused s 51 (otherIn block s group number n room))) (ne-eqb (otherIn block s group number n room) 0 h)
+
+-- The profile answers as the plain reader does, or refuses with a number that is not 0.
+pub either : (block : ℕ) (s : Reader) (group : List ℕ) (number n room : ℕ) →
+    (blocksReadCall block s group number n room ≡ readCall s group number n room) ⊎ ((fault : ℕ) × ((place : ℕ) × ((blocksReadCall block s group number n room ≡ answer.Refused s fault place) × (fault ≡ 0 → ⊥))))
+either block s group number n room = by (blockSizeKept block) refl (eqb (readRefusal s (length group) number n room) 0) refl
+  where
+    k : ℕ
+    k = otherIn block s group number n room
+
+    here : blockSizeKept block ≡ true → readRefusal s (length group) number n room ≡ 0 → (b : Bool) → eqb k 0 ≡ b → (c : Bool) → stoppedBy k (groupScan s group n) ≡ c →
+        (blocksReadCall block s group number n room ≡ readCall s group number n room) ⊎ ((fault : ℕ) × ((place : ℕ) × ((blocksReadCall block s group number n room ≡ answer.Refused s fault place) × (fault ≡ 0 → ⊥))))
+    here kept z true x c y = inl (none-differs block s group number n room kept z (eqb-true k 0 x))
+    here kept z false x true y = inl (plain-first block s group number n room kept z k refl y)
+    here kept z false x false y =
+        inr (51, (k, (other-told block s group number n room kept z k refl (eqb-false k 0 x) y ∙ ap (λ (b : Bool). cond b (readCall s group number n room) (answer.Refused s 51 k)) x, λ f. omega arith)))
+
+    by : (kept : Bool) → blockSizeKept block ≡ kept → (ready : Bool) → eqb (readRefusal s (length group) number n room) 0 ≡ ready →
+        (blocksReadCall block s group number n room ≡ readCall s group number n room) ⊎ ((fault : ℕ) × ((place : ℕ) × ((blocksReadCall block s group number n room ≡ answer.Refused s fault place) × (fault ≡ 0 → ⊥))))
+    by false x ready y = inr (1, (0, (bad-block block s group number n room x, λ f. omega arith)))
+    by true x false y = inl (before-the-scan block s group number n room x (eqb-false _ 0 y))
+    by true x true y = here x (eqb-true _ 0 y) (eqb k 0) refl (stoppedBy k (groupScan s group n)) refl

@@ -87,11 +87,15 @@ with-block told new rows-new old rows block {part} {rows′} {whole} e w = by to
 pub part-long : (state : List ℕ) → length state ≡ blocksLength → length (readerPart state) ≡ readerLength
 part-long state e = length-take readerLength state ∙ ap (min readerLength) e
 
-part-kept : (state answer : List ℕ) → lengthsKept (length state) blocksLength (length answer) ≡ true → lengthsKept (length (readerPart state)) readerLength (length answer) ≡ true
+-- Slices of their lengths.
+pub are-kept : {state own answer : ℕ} → state ≡ own → answer ≡ answerLength → lengthsKept state own answer ≡ true
 unfolding lengthsKept
+are-kept {state} {own} {answer} e f = and (eq-eqb state own e) (eq-eqb answer answerLength f)
+
+part-kept : (state answer : List ℕ) → lengthsKept (length state) blocksLength (length answer) ≡ true → lengthsKept (length (readerPart state)) readerLength (length answer) ≡ true
 part-kept state answer kept =
     let l = lengths (length state) blocksLength (length answer) kept in
-    and (eq-eqb (length (readerPart state)) readerLength (part-long state (l .0))) (eq-eqb (length answer) answerLength (l .1))
+    are-kept (part-long state (l .0)) (l .1)
 
 -- The plain call, where it is the whole of it.
 pub plain-call : (state group : List ℕ) (number n : ℕ) (rows answer : List ℕ) {part rows′ answer′ : List ℕ} {refusal : ℕ} → lengthsKept (length state) blocksLength (length answer) ≡ true →

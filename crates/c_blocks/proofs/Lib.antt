@@ -1,2 +1,3 @@
--- The laws of the calls on blocks, and the theorems.
+-- The laws of the calls on blocks (Laws), and the theorems.
 pub mod Laws
+pub mod Theorems

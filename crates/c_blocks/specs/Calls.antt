@@ -14,7 +14,7 @@ use Rattle.blocks.specs.Answer.{blocksStartCall, blocksReadCall}
 use Rattle.seek.specs.declared.Beginning.{Beginning}
 use Rattle.seek.specs.declared.Beginning.the-variants.{At, Elsewhere}
 use Rattle.seek.specs.Find.{findCall}
-use Rattle.slices.specs.Call.{Left, slice, lengthsKept, answerKept, ofMeaning, called}
+use Rattle.slices.specs.Call.{Left, left, slice, lengthsKept, answerKept, ofMeaning, called}
 use Rattle.states.specs.States.{readerLength, readerOf, readerBytes, readerMeant}
 use Rattle.c_reader.specs.Calls.{stateLeft}
 
@@ -60,3 +60,7 @@ blocksLeft o = slice o 0
 
 abbrev pub blocksRows : Left → List ℕ
 blocksRows o = slice o 1
+
+-- What a plain read leaves, with the block size's bytes behind the state.
+abbrev pub withBlock : (block : List ℕ) → Left → Left
+withBlock block o = left (o .refusal) ((slice o 0 ++ block) ∷ slice o 1 ∷ []) (o .answer)

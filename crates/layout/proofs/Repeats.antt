@@ -28,11 +28,11 @@ use Rattle.layout.specs.Accepting.LentBehind.{behind-none, behind-more}
 use Rattle.layout.specs.Accepting.LentAmong.{among-none, among-more}
 
 -- Behind a group of the number `last` that was accepted.
-behind-repeat : {last : ℕ} (g : Image) (gs : List Image) → g .number ≡ last → behind last (g ∷ gs) ≡ behind last gs
+pub behind-repeat : {last : ℕ} (g : Image) (gs : List Image) → g .number ≡ last → behind last (g ∷ gs) ≡ behind last gs
 unfolding behind
 behind-repeat {last} g gs e = ap (λ (b : Bool). cond b (behind last gs) (g ∷ behind (g .number) gs)) (eq-eqb (g .number) last e)
 
-behind-other : {last : ℕ} (g : Image) (gs : List Image) → (g .number ≡ last → ⊥) → behind last (g ∷ gs) ≡ g ∷ behind (g .number) gs
+pub behind-other : {last : ℕ} (g : Image) (gs : List Image) → (g .number ≡ last → ⊥) → behind last (g ∷ gs) ≡ g ∷ behind (g .number) gs
 unfolding behind
 behind-other {last} g gs h = ap (λ (b : Bool). cond b (behind last gs) (g ∷ behind (g .number) gs)) (ne-eqb (g .number) last h)
 

@@ -31,15 +31,15 @@ use Rattle.trip.proofs.Settled.{start-lent, read-lent}
 
 -- A read of the bytes of a sound state that returned 0 and told outcome 0: the reader's own read accepts the group, and leaves the same
 -- rows and the same state.
-record Step (s : Reader) (g : Image) (loan : Loan) (o : Left) : Type 0 where
-  next : Reader
-  accepts : readCall s (g .bytes) (g .number) (g .entries) (length (numbersIn (loan .rows))) ≡ read.Accepted next
-  row : numbersIn (rowsRead o)
+pub record Step (s : Reader) (g : Image) (loan : Loan) (o : Left) : Type 0 where
+  pub next : Reader
+  pub accepts : readCall s (g .bytes) (g .number) (g .entries) (length (numbersIn (loan .rows))) ≡ read.Accepted next
+  pub row : numbersIn (rowsRead o)
       ≡ rowsLeft (readCall s (g .bytes) (g .number) (g .entries) (length (numbersIn (loan .rows)))) (groupRows s (g .bytes) (g .entries)) (numbersIn (loan .rows))
-  sound-next : sound next ≡ true
-  left-state : readerLeft o ≡ slice next
+  pub sound-next : sound next ≡ true
+  pub left-state : readerLeft o ≡ slice next
 
-stepped : (s : Reader) (g : Image) (loan : Loan) {o : Left} → sound s ≡ true → ddsRead (slice s) (g .bytes) (g .number) (g .entries) (loan .rows) (loan .answer) ≡ o →
+pub stepped : (s : Reader) (g : Image) (loan : Loan) {o : Left} → sound s ≡ true → ddsRead (slice s) (g .bytes) (g .number) (g .entries) (loan .rows) (loan .answer) ≡ o →
     o .refusal ≡ 0 → outcomeSeen o ≡ 0 → Step s g loan o
 stepped s g loan h e n z =
     let refusal = ap (λ (o : Left). o .refusal) e ∙ n in
@@ -109,11 +109,11 @@ end-more {s} {g = g} {gs = gs} {loan = loan} {loans = loans} {rows = rows} {fina
     subst (λ (x : List ℕ). OwnToEnd s (g ∷ gs) (loan ∷ loans) (x ∷ rows) final) (sym (k .row))
     (record { last = r .last; reads = ToEnd.end-more (numbersIn (loan .rows)) (k .accepts) (r .reads); sound-last = r .sound-last; bytes = r .bytes })
 
-record Again (s : Reader) (g : Image) (loan : Loan) (o : Left) : Type 0 where
-  repeats : readCall s (g .bytes) (g .number) (g .entries) (length (numbersIn (loan .rows))) ≡ read.Repeated s
-  left-state : readerLeft o ≡ slice s
+pub record Again (s : Reader) (g : Image) (loan : Loan) (o : Left) : Type 0 where
+  pub repeats : readCall s (g .bytes) (g .number) (g .entries) (length (numbersIn (loan .rows))) ≡ read.Repeated s
+  pub left-state : readerLeft o ≡ slice s
 
-again : (s : Reader) (g : Image) (loan : Loan) {o : Left} → sound s ≡ true → ddsRead (slice s) (g .bytes) (g .number) (g .entries) (loan .rows) (loan .answer) ≡ o →
+pub again : (s : Reader) (g : Image) (loan : Loan) {o : Left} → sound s ≡ true → ddsRead (slice s) (g .bytes) (g .number) (g .entries) (loan .rows) (loan .answer) ≡ o →
     o .refusal ≡ 0 → outcomeSeen o ≡ 2 → Again s g loan o
 again s g loan h e n z =
     let r = read-repeats (slice s) (g .bytes) (g .number) (g .entries) (loan .rows) (loan .answer) .0 (ap (λ (o : Left). o .refusal) e ∙ n, ap outcomeSeen e ∙ z) in

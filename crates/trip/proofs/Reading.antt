@@ -39,17 +39,17 @@ abbrev pub slice : Reader → List ℕ
 slice s = inBytes (readerNumbers s)
 
 -- What a call that is accepted returns and leaves.
-abbrev accepted : Reader → List (List ℕ) → Left
+abbrev pub accepted : Reader → List (List ℕ) → Left
 accepted s lent = left 0 (slice s ∷ lent) (inBytes (0 ∷ 0 ∷ 0 ∷ 0 ∷ 0 ∷ 0 ∷ []))
 
 -- Slices of their lengths are let through.
-long-slice : (s : Reader) → length (slice s) ≡ readerLength
+pub long-slice : (s : Reader) → length (slice s) ≡ readerLength
 long-slice s = length-in-bytes (readerNumbers s)
 
 pub held-slice : (s : Reader) → sound s ≡ true → readerOf (slice s) ≡ s
 held-slice s h = reader-of-bytes s (sound-reader-fits s h)
 
-kept-lengths : (state answer : List ℕ) → length state ≡ readerLength → length answer ≡ answerLength → lengthsKept (length state) readerLength (length answer) ≡ true
+pub kept-lengths : (state answer : List ℕ) → length state ≡ readerLength → length answer ≡ answerLength → lengthsKept (length state) readerLength (length answer) ≡ true
 unfolding lengthsKept
 kept-lengths state answer e f = rw (e, f)
 
@@ -102,12 +102,12 @@ among-lent (LentAmongC.among-more {g = g} {loan = loan} h l r) =
     LentAmong.among-more long (behind-lent r)
 
 -- A read that the reader accepts, made through the slices: what it leaves, and the numbers of its rows.
-record Made (s t : Reader) (g : Image) (loan : Loan) (old : List ℕ) : Type 0 where
-  left : List ℕ
-  reads : ddsRead (slice s) (g .bytes) (g .number) (g .entries) (loan .rows) (loan .answer) ≡ accepted t (left ∷ [])
-  row : numbersIn left ≡ rowsLeft (readCall s (g .bytes) (g .number) (g .entries) (length old)) (groupRows s (g .bytes) (g .entries)) old
+pub record Made (s t : Reader) (g : Image) (loan : Loan) (old : List ℕ) : Type 0 where
+  pub left : List ℕ
+  pub reads : ddsRead (slice s) (g .bytes) (g .number) (g .entries) (loan .rows) (loan .answer) ≡ accepted t (left ∷ [])
+  pub row : numbersIn left ≡ rowsLeft (readCall s (g .bytes) (g .number) (g .entries) (length old)) (groupRows s (g .bytes) (g .entries)) old
 
-made : (s t : Reader) (g : Image) (loan : Loan) (old : List ℕ) → sound s ≡ true → 12 * g .entries ≤ length (loan .rows) → length (loan .answer) ≡ answerLength → old ≡ numbersIn (loan .rows) →
+pub made : (s t : Reader) (g : Image) (loan : Loan) (old : List ℕ) → sound s ≡ true → 12 * g .entries ≤ length (loan .rows) → length (loan .answer) ≡ answerLength → old ≡ numbersIn (loan .rows) →
     readCall s (g .bytes) (g .number) (g .entries) (length old) ≡ read.Accepted t → Made s t g loan old
 made s t g loan old h long l same e =
     let new : List ℕ = groupRows s (g .bytes) (g .entries) in
@@ -140,7 +140,7 @@ accepted-through (Accepts.accepts-more {s} {t} {u} {g} {gs} {rows} old e a) h (L
     one-more (made s t g loan old h long l same e) (accepted-through a (sound-again s t (g .bytes) (g .number) (g .entries) (length old) e) r rest)
 
 -- The same of a run with repeats, which are answered whatever rows are lent.
-repeated-through : (s : Reader) (g : Image) (loan : Loan) (old : List ℕ) → sound s ≡ true → length (loan .answer) ≡ answerLength →
+pub repeated-through : (s : Reader) (g : Image) (loan : Loan) (old : List ℕ) → sound s ≡ true → length (loan .answer) ≡ answerLength →
     readCall s (g .bytes) (g .number) (g .entries) (length old) ≡ read.Repeated s →
     ddsRead (slice s) (g .bytes) (g .number) (g .entries) (loan .rows) (loan .answer) ≡ repeatLeft (slice s) (loan .rows)
 repeated-through s g loan old h l e =
@@ -165,7 +165,7 @@ unfolding numberAt inBytes bytesOf
 again-to-end d a = ToEndC.end-repeat d refl refl a
 
 -- Answer slices of their length for the reads of a run.
-data Answering : List Loan → Type 0 where
+pub data Answering : List Loan → Type 0 where
   answers-none : Answering []
   answers-more : {loan : Loan} {loans : List Loan} → length (loan .answer) ≡ answerLength → Answering loans → Answering (loan ∷ loans)
 
@@ -173,12 +173,12 @@ answering-behind : {last : ℕ} {run : List Image} {loans : List Loan} → LentB
 answering-behind LentBehindC.behind-none = answers-none
 answering-behind (LentBehindC.behind-more f l r) = answers-more l (answering-behind r)
 
-answering : {run : List Image} {loans : List Loan} → LentAmongC run loans → Answering loans
+pub answering : {run : List Image} {loans : List Loan} → LentAmongC run loans → Answering loans
 answering LentAmongC.among-none = answers-none
 answering (LentAmongC.among-more f l r) = answers-more l (answering-behind r)
 
 -- An accepted read has row slices that are long enough.
-long-enough : (s t : Reader) (g : Image) (loan : Loan) (old : List ℕ) → old ≡ numbersIn (loan .rows) → readCall s (g .bytes) (g .number) (g .entries) (length old) ≡ read.Accepted t →
+pub long-enough : (s t : Reader) (g : Image) (loan : Loan) (old : List ℕ) → old ≡ numbersIn (loan .rows) → readCall s (g .bytes) (g .number) (g .entries) (length old) ≡ read.Accepted t →
     12 * g .entries ≤ length (loan .rows)
 long-enough s t g loan old same e =
     let p = passed s t (g .bytes) (g .number) (g .entries) (length old) e in
