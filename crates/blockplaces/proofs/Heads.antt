@@ -1,6 +1,6 @@
 -- The pieces with which blocks begin are, in order, the first bytes of a run's records.
 -- Assumes nothing.
-use Prim.Native.Nat.{ℕ, suc, _+_, _≤_}
+use Prim.Native.Nat.{ℕ, suc, _≤_}
 use native.Mathlib.Omega.{arith}
 use mathlib.Core.List.{List, [], _∷_, _++_, append-assoc, append-nil}
 use mathlib.Core.Bool.{Bool, true, false, false≢true}
@@ -137,7 +137,7 @@ firsts-from before behind left first right h =
     ∙ ap (λ (l : List (List ℕ)). firsts (flat before) ++ (firsts left ++ l)) (first-of first (right ++ flat behind) h)
     ∙ sym (append-assoc (firsts (flat before)) (firsts left) (dataOf first ∷ firsts (right ++ flat behind)))
 
-user-append : (ps qs : List Piece) → userData (ps ++ qs) ≡ userData ps ++ userData qs
+pub user-append : (ps qs : List Piece) → userData (ps ++ qs) ≡ userData ps ++ userData qs
 unfolding userData
 user-append [] qs = refl
 user-append (p ∷ ps) qs = ap (λ (l : List ℕ). dataOf p ++ l) (user-append ps qs) ∙ sym (append-assoc (dataOf p) (userData ps) (userData qs))

@@ -25,7 +25,7 @@ use Rattle.layout.proofs.Decode.{SmallPiece, adds-up, entries-back}
 use Rattle.layout.proofs.Complete.{past, walk-of}
 use Rattle.blockplaces.specs.Places.{begun, begunIn, BeginsAt, recordsOf, opened, BlockAt, begunRows, Somewhere}
 use Rattle.blockplaces.proofs.Found.{at-same, found-is, answered-at, at-answered, elsewhere}
-use Rattle.blockplaces.proofs.Heads.{Heads, firsts, heads-of-tokens, pick, firsts-begun, firsts-in, firsts-from, stands-at, heads-many}
+use Rattle.blockplaces.proofs.Heads.{Heads, firsts, user-append, heads-of-tokens, pick, firsts-begun, firsts-in, firsts-from, stands-at, heads-many}
 use Rattle.blockplaces.proofs.Places.{rows-begun, block-in, counted-in, one-group}
 
 -- The first bytes of a run's records are those of the pieces with which blocks begin.
@@ -79,6 +79,12 @@ module _ {size first : ℕ} {i : List Item} {b : List ℕ} {run : List Image} (l
   -- "or that b doesn't begin there": exactly where block k begins at no offset of this group.
   pub block-elsewhere : (k : ℕ) → (findCall (inBytes (groupRows s (g .bytes) (g .entries))) (begunIn before) k ≡ Elsewhere) ↔ ((offset : ℕ) → BeginsAt ps (begunIn before) k offset → ⊥)
   block-elsewhere k = elsewhere (findCall (inBytes (groupRows s (g .bytes) (g .entries))) (begunIn before) k) ps (begunIn before) k (block-found k)
+
+  -- An offset is one of the group's.
+  pub block-within : (k offset : ℕ) → BeginsAt ps (begunIn before) k offset → offset ≤ size
+  block-within k offset r =
+      let all : length (userData ps) ≡ length (userData (r .left) ++ userData (r .first ∷ r .right)) = ap (λ (x : List Piece). length (userData x)) (r .stands) ∙ ap length (user-append (r .left) (r .first ∷ r .right)) in
+      omega (arith, all, length-append (userData (r .left)) (userData (r .first ∷ r .right)), r .reached, adds-up (this-group .pictured))
 
   -- "Blocks are numbered from 0 as they begin." What is answered of k is where the bytes of the run's k-th record begin, counted
   -- from 0 over its finished records and then the one broken off. They stand there whole, or a first part of them.

@@ -1,31 +1,25 @@
 -- The theorems over runs of the profile, as they are cited, each under the words of change request 2026-09.
 -- Assumes nothing.
-use Prim.Native.Nat.{ℕ, _*_, _/_}
+use Prim.Native.Nat.{ℕ, _*_, _/_, _<_, _^_}
 use native.Mathlib.Omega.{arith}
 use mathlib.Core.List.{List, [], _∷_, _++_}
-use mathlib.Core.Bool.{Bool, true, false, cond}
+use mathlib.Core.Bool.{true, false}
 use mathlib.Core.Path.{_≡_, refl, sym, ap, _∙_, subst}
 use mathlib.Core.Logic.{_↔_}
-use lib.Dec.{eqb}
 use lib.ListN.{length, take}
-use borrow.Author.Tests.{eqb-true, eqb-false}
+use borrow.Author.Tests.{eq-eqb}
 use Rattle.numbers.specs.Numbers.{inBytes}
 use Rattle.numbers.specs.Store.{put}
 use Rattle.numbers.proofs.Tests.{within}
 use Rattle.numbers.proofs.Stores.{put-stands}
-use Rattle.numbers.proofs.InBytes.{length-in-bytes}
-use Rattle.group.specs.declared.Entry.{Entry}
-use Rattle.group.specs.Flags.{meaningOf}
-use Rattle.group.specs.Sizes.{informationLength}
-use Rattle.group.specs.Entries.{entriesBelow}
-use Rattle.group.proofs.EntryLaws.{length-entries}
+use Rattle.numbers.proofs.InBytes.{length-in-bytes, field-of-bytes}
 use Rattle.reader.specs.declared.Reader.{Reader}
 use Rattle.reader.specs.declared.ReaderStart.the-variants as start
 use Rattle.reader.specs.Answer.{fresh, readerStartCall, groupRows}
 use Rattle.reader.proofs.Accepted as passes
 use Rattle.reader.proofs.GroupRows.{length-group-rows}
 use Rattle.laying.specs.Laying.{Desk}
-use Rattle.layout.specs.Items.{Item, Each}
+use Rattle.layout.specs.Items.{Item, Piece, Each}
 use Rattle.layout.specs.Layout.{Image, Lays}
 use Rattle.layout.specs.Repeats.{withoutRepeats, OfSize}
 use Rattle.layout.specs.Accepting.{ToEnd, LentAmong}
@@ -36,17 +30,19 @@ use Rattle.layout.proofs.Complete.{walk-of}
 use Rattle.layout.proofs.OnlyOne.{buffersFor, enough}
 use Rattle.layout.proofs.Repeats.{lent-among}
 use Rattle.layout.proofs.Theorems as plainly
-use Rattle.blocks.specs.Rule.{blockKept}
 use Rattle.blocks.specs.Answer.{blockSizeKept, blocksStartCall}
-use Rattle.blocks.specs.Bounds.{otherAt}
 use Rattle.blocks.proofs.Started.{as-started, begun-blocks}
-use Rattle.blocks.proofs.Judged.{other-refused}
-use Rattle.slices.specs.Call.{Left, outcomeSeen, answerLength, lengthsKept, called}
+use Rattle.seek.specs.declared.Beginning.{Beginning}
+use Rattle.seek.specs.declared.Beginning.the-variants.{At, Elsewhere}
+use Rattle.seek.specs.Find.{findCall}
+use Rattle.blockplaces.specs.Places.{begunIn, BeginsAt}
+use Rattle.blockplaces.proofs.Theorems.{block-found, block-within}
+use Rattle.slices.specs.Call.{Left, left, outcomeSeen, answerLength, lengthsKept, called}
 use Rattle.slices.proofs.Calls.{lengths}
 use Rattle.states.specs.States.{readerOf}
 use Rattle.c_reader.specs.Calls.{readerLeft}
 use Rattle.c_reader.proofs.Theorems.{read-accepts, read-left}
-use Rattle.c_blocks.specs.Calls.{blocksLength, readerPart, blockPart, ddsBlocksStart, ddsBlocksRead, blocksLeft, blocksRows}
+use Rattle.c_blocks.specs.Calls.{blocksLength, readerPart, blockPart, ddsBlocksStart, ddsBlocksRead, ddsBlocksFind, offsetSeen, blocksLeft, blocksRows}
 use Rattle.c_blocks.proofs.Laws.{are-kept, part-long}
 use Rattle.c_blocks.proofs.Theorems.{blocks-start-zero, blocks-plainly}
 use Rattle.trip.specs.ThroughC.{Loan, LentAmongC, numbersLent, ToEndC}
@@ -212,3 +208,61 @@ c-blocks-rows state group number n rows answer z e =
     let room = passes.accepted (readerOf (readerPart state)) (a .left) group number n (length rows / 4) (a .accepts) .ready .rows in
     let long : length new ≡ 12 * n = omega (arith, length-in-bytes (groupRows (readerOf (readerPart state)) group n), length-group-rows (readerOf (readerPart state)) group n) in
     ap (take (12 * n)) left ∙ ap (λ (k : ℕ). take k (put rows 0 new)) (sym long) ∙ put-stands rows 0 new (omega arith)
+
+-- What a search tells, by what it finds.
+found-seen : (rows : List ℕ) (before k : ℕ) (told : List ℕ) (offset : ℕ) → length told ≡ answerLength → offset < 256 ^ 4 → findCall rows before k ≡ At offset →
+    (outcomeSeen (ddsBlocksFind rows before k told) ≡ 1) × (offsetSeen (ddsBlocksFind rows before k told) ≡ offset)
+unfolding ddsBlocksFind called
+found-seen rows before k told offset long small e =
+    let o : ddsBlocksFind rows before k told ≡ left 0 [] (inBytes (0 ∷ 0 ∷ 1 ∷ offset ∷ 0 ∷ 0 ∷ [])) = rw (eq-eqb (length told) answerLength long, e) in
+    (ap outcomeSeen o ∙ field-of-bytes (0 ∷ 0 ∷ 1 ∷ offset ∷ 0 ∷ 0 ∷ []) 2 (omega arith) (omega arith), ap offsetSeen o ∙ field-of-bytes (0 ∷ 0 ∷ 1 ∷ offset ∷ 0 ∷ 0 ∷ []) 3 (omega arith) small)
+
+none-seen : (rows : List ℕ) (before k : ℕ) (told : List ℕ) → length told ≡ answerLength → findCall rows before k ≡ Elsewhere → outcomeSeen (ddsBlocksFind rows before k told) ≡ 0
+unfolding ddsBlocksFind called
+none-seen rows before k told long e =
+    let o : ddsBlocksFind rows before k told ≡ left 0 [] (inBytes (0 ∷ 0 ∷ 0 ∷ 0 ∷ 0 ∷ 0 ∷ [])) = rw (eq-eqb (length told) answerLength long, e) in
+    ap outcomeSeen o ∙ field-of-bytes (0 ∷ 0 ∷ 0 ∷ 0 ∷ 0 ∷ 0 ∷ []) 2 (omega arith) (omega arith)
+
+-- "From a group's rows .. and the number of blocks begun before it": of any group g of a lawful run, with the pieces ps in its layout, that
+-- dds_blocks_read accepted. The search is lent the first 12n bytes of the rows that the read left, and `told` for its answer.
+module _ {size first : ℕ} {i : List Item} {b : List ℕ} {run : List Image} (l : Lays size first i b run) (beginning rest : List Image) (g : Image) (before behind : List (List Piece))
+    (ps : List Piece) (parts : run ≡ beginning ++ (g ∷ rest)) (groups : l .groups ≡ before ++ (ps ∷ behind)) (place : length before ≡ length beginning)
+    (state rows answer told : List ℕ) (sizes : readerOf (readerPart state) .size ≡ size) (zero : ddsBlocksRead state (g .bytes) (g .number) (g .entries) rows answer .refusal ≡ 0)
+    (accepts : outcomeSeen (ddsBlocksRead state (g .bytes) (g .number) (g .entries) rows answer) ≡ 0) (long : length told ≡ answerLength) where
+  abbrev pub sought : ℕ → Left
+  sought k = ddsBlocksFind (take (12 * g .entries) (blocksRows (ddsBlocksRead state (g .bytes) (g .number) (g .entries) rows answer))) (begunIn before) k told
+
+  abbrev lentRows : List ℕ
+  lentRows = take (12 * g .entries) (blocksRows (ddsBlocksRead state (g .bytes) (g .number) (g .entries) rows answer))
+
+  same : (k : ℕ) → findCall lentRows (begunIn before) k ≡ findCall (inBytes (groupRows (readerOf (readerPart state)) (g .bytes) (g .entries))) (begunIn before) k
+  same k = ap (λ (r : List ℕ). findCall r (begunIn before) k) (c-blocks-rows state (g .bytes) (g .number) (g .entries) rows answer zero accepts)
+
+  there : (k offset : ℕ) → (findCall lentRows (begunIn before) k ≡ At offset) ↔ BeginsAt ps (begunIn before) k offset
+  there k offset =
+      let f = block-found l beginning rest g before behind ps parts groups place (readerOf (readerPart state)) sizes k offset in
+      (λ e. f .0 (sym (same k) ∙ e), λ r. same k ∙ f .1 r)
+
+  small : (k offset : ℕ) → BeginsAt ps (begunIn before) k offset → offset < 256 ^ 4
+  small k offset r =
+      let (least, most) = within 64 size 126632 (l .sized) in
+      omega (arith, block-within l beginning rest g before behind ps parts groups place (readerOf (readerPart state)) sizes k offset r)
+
+  -- "the profile answers the offset in the row of block b": outcome 1 and this offset exactly where block k begins there in this group ..
+  pub c-block-found : (k offset : ℕ) → ((outcomeSeen (sought k) ≡ 1) × (offsetSeen (sought k) ≡ offset)) ↔ BeginsAt ps (begunIn before) k offset
+  c-block-found k offset = (λ z. by (findCall lentRows (begunIn before) k) refl z, λ r. found-seen lentRows (begunIn before) k told offset long (small k offset r) (there k offset .1 r))
+    where
+      by : (f : Beginning) → findCall lentRows (begunIn before) k ≡ f → (outcomeSeen (sought k) ≡ 1) × (offsetSeen (sought k) ≡ offset) → BeginsAt ps (begunIn before) k offset
+      by (At o) e (z, y) =
+          let r = there k o .0 e in
+          let s = found-seen lentRows (begunIn before) k told o long (small k o r) e .1 in
+          subst (λ (x : ℕ). BeginsAt ps (begunIn before) k x) (sym s ∙ y) r
+      by Elsewhere e (z, y) = absurd (omega (arith, none-seen lentRows (begunIn before) k told long e))
+
+  -- ".. or that b doesn't begin there": outcome 0 exactly where it begins nowhere in this group.
+  pub c-block-elsewhere : (k : ℕ) → (outcomeSeen (sought k) ≡ 0) ↔ ((offset : ℕ) → BeginsAt ps (begunIn before) k offset → ⊥)
+  c-block-elsewhere k = (λ z offset r. omega (arith, c-block-found k offset .1 r .0), λ h. by (findCall lentRows (begunIn before) k) refl h)
+    where
+      by : (f : Beginning) → findCall lentRows (begunIn before) k ≡ f → ((offset : ℕ) → BeginsAt ps (begunIn before) k offset → ⊥) → outcomeSeen (sought k) ≡ 0
+      by (At o) e h = absurd (h o (there k o .0 e))
+      by Elsewhere e h = none-seen lentRows (begunIn before) k told long e

@@ -1,26 +1,24 @@
 -- A reading of blocks from C is the profile's own, and the profile's own is made through C.
 -- Assumes nothing.
-use Prim.Native.Nat.{ℕ, _+_, _/_, _≤_, _<_, _^_}
+use Prim.Native.Nat.{ℕ, _/_}
 use native.Mathlib.Omega.{arith}
 use mathlib.Core.List.{List, [], _∷_, _++_}
 use mathlib.Core.Bool.{true}
 use mathlib.Core.Path.{_≡_, refl, sym, ap, _∙_, subst}
 use lib.ListN.{length, length-append}
-use Rattle.numbers.specs.Numbers.{numberAt, bytesOf, inBytes, numbersIn, field}
-use Rattle.numbers.specs.Store.{put}
+use Rattle.numbers.specs.Numbers.{numberAt, bytesOf, inBytes, numbersIn}
 use Rattle.numbers.proofs.Tests.{within}
 use Rattle.numbers.proofs.NumberLaws.{length-bytes, number-from, number-of-bytes}
 use Rattle.numbers.proofs.InBytes.{length-numbers}
 use Rattle.reader.specs.declared.Reader.{Reader}
 use Rattle.reader.specs.declared.ReadAnswer.{ReadAnswer}
-use Rattle.reader.specs.declared.ReadAnswer.the-variants as read
 use Rattle.reader.specs.Answer.{sound, readCall, groupRows, rowsLeft}
 use Rattle.reader.proofs.Sound.{sound-again}
 use Rattle.layout.specs.Layout.{Image}
 use Rattle.blocks.specs.Answer.{blockSizeKept, blocksReadCall}
 use Rattle.blocks.proofs.Judged.{accepts-plainly, repeats-plainly}
-use Rattle.slices.specs.Call.{Left, left, outcomeSeen, answerLength, lengthsKept}
-use Rattle.states.specs.States.{readerLength, readerOf}
+use Rattle.slices.specs.Call.{Left, left, outcomeSeen, answerLength}
+use Rattle.states.specs.States.{readerOf}
 use Rattle.c_reader.specs.Calls.{ddsRead, rowsRead}
 use Rattle.c_reader.specs.Accepted.{repeatLeft}
 use Rattle.c_blocks.specs.Calls.{blocksLength, readerPart, blockPart, blockOf, ddsBlocksRead, blocksLeft, blocksRows, withBlock}
@@ -28,7 +26,7 @@ use Rattle.c_blocks.proofs.Laws.{are-kept, plain-call}
 use Rattle.c_blocks.proofs.Theorems.{read-lent, blocks-returned, blocks-plainly}
 use Rattle.trip.specs.ThroughC.{Loan, numbersLent, ToEndC}
 use Rattle.trip.proofs.Reading.{slice, accepted, long-slice, held-slice, Made, made, repeated-through, Answering, long-enough}
-use Rattle.trip.proofs.Accepting.{Step, stepped, Again, again}
+use Rattle.trip.proofs.Accepting.{Step, stepped, again}
 use Rattle.blockruns.specs.Stated.{ToEndBlocks}
 use Rattle.blockruns.specs.ThroughC.{ToEndBlocksC}
 

@@ -1,7 +1,7 @@
 -- What the profile's read answers beside the plain one, by the first entry of another length: one law an exit. And what it accepts and
 -- repeats.
 -- Assumes nothing.
-use Prim.Native.Nat.{ℕ, _-_, _≤_}
+use Prim.Native.Nat.{ℕ, _-_}
 use native.Mathlib.Omega.{arith}
 use mathlib.Core.Path.{_≡_, refl, sym, ap, _∙_}
 use mathlib.Core.Logic.{_⊎_, inl, inr}
@@ -10,13 +10,11 @@ use mathlib.Core.Bool.{Bool, true, false, cond, not, false≢true}
 use lib.Dec.{eqb}
 use lib.ListN.{length}
 use borrow.Author.Tests.{eqb-true, eqb-false, ne-eqb}
-use Rattle.group.specs.declared.Entry.{Entry}
 use Rattle.group.specs.Sizes.{informationLength, entryOffset}
 use Rattle.group.specs.Entries.{entriesBelow}
 use Rattle.entry.specs.declared.ScanEnd.{ScanEnd}
 use Rattle.entry.specs.declared.ScanEnd.the-variants as scanned
 use Rattle.reader.specs.declared.Reader.{Reader}
-use Rattle.reader.specs.declared.ReadAnswer.{ReadAnswer}
 use Rattle.reader.specs.declared.ReadAnswer.the-variants as answer
 use Rattle.reader.specs.Answer.{opening, isRepeat, readRefusal, groupScan, answered, readCall}
 use Rattle.reader.proofs.Accepted.{accepted, repeated, not-refused, repeat-five, never-repeat, read-scanned}

@@ -6,17 +6,17 @@ use mathlib.Core.Path.{_≡_, refl, sym, ap, _∙_}
 use mathlib.Core.Bool.{true, false}
 use mathlib.Core.List.{List, [], _∷_, _++_}
 use borrow.Author.Tests.{eq-eqb, ne-eqb}
-use lib.ListN.{length, take, drop, replicate, take-append-drop, length-take}
+use lib.ListN.{length, replicate, take-append-drop, length-take}
 use Rattle.numbers.specs.Numbers.{bytesOf, inBytes}
 use Rattle.numbers.specs.Store.{put}
 use Rattle.numbers.proofs.Tests.{and}
 use Rattle.answer.specs.declared.Told.{Told}
 use Rattle.answer.specs.declared.Told.the-variants.{Accepted, RefusedAt}
-use Rattle.answer.specs.Answer.{numbersTold, refusalTold, ifAccepted}
+use Rattle.answer.specs.Answer.{ifAccepted}
 use Rattle.reader.specs.declared.Reader.{Reader}
 use Rattle.reader.specs.declared.ReadAnswer.{ReadAnswer}
 use Rattle.reader.specs.declared.ReadAnswer.the-variants as read
-use Rattle.reader.specs.Answer.{fresh, readCall, told, groupRows, rowsLeft}
+use Rattle.reader.specs.Answer.{fresh, readCall, told}
 use Rattle.blocks.specs.Answer.{blocksReadCall}
 use Rattle.blocks.specs.Bounds.{unlessOther}
 use Rattle.seek.specs.declared.Beginning.{Beginning}
@@ -24,7 +24,7 @@ use Rattle.seek.specs.Find.{findCall}
 use Rattle.slices.specs.Call.{Left, left, answerLength, answerKept, lengthsKept, ofMeaning, called, Tells}
 use Rattle.slices.proofs.Calls.{lengths, stopped, went-on, answered, none-lent}
 use Rattle.states.specs.States.{readerLength, readerOf, readerBytes, readerMeant}
-use Rattle.c_reader.specs.Calls.{stateLeft, ddsRead}
+use Rattle.c_reader.specs.Calls.{ddsRead}
 use Rattle.c_blocks.specs.Calls.{blocksLength, readerPart, blockPart, blockOf, ddsBlocksRead, findTold, ddsBlocksFind}
 use Rattle.c_blocks.specs.Contracts.{Judges}
 

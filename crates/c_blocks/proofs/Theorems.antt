@@ -4,12 +4,10 @@ use Prim.Native.Nat.{ℕ, _/_}
 use mathlib.Core.Path.{_≡_, refl, sym, ap, _∙_}
 use mathlib.Core.Logic.{_↔_, _⊎_, inl, inr}
 use mathlib.Core.Bool.{Bool, true, false, cond}
-use mathlib.Core.List.{List, [], _∷_, _++_}
-use native.Mathlib.Omega.{arith}
+use mathlib.Core.List.{List, [], _∷_}
 use lib.Dec.{eqb}
 use lib.ListN.{length}
 use borrow.Author.Tests.{eqb-false}
-use Rattle.numbers.specs.Numbers.{inBytes}
 use Rattle.answer.specs.declared.Told.{Told}
 use Rattle.answer.specs.declared.Told.the-variants.{Accepted, RefusedAt}
 use Rattle.answer.specs.Answer.{refusalTold}
@@ -18,13 +16,13 @@ use Rattle.reader.specs.declared.ReaderStart.{ReaderStart}
 use Rattle.reader.specs.declared.ReaderStart.the-variants as start
 use Rattle.reader.specs.declared.ReadAnswer.{ReadAnswer}
 use Rattle.reader.specs.declared.ReadAnswer.the-variants as read
-use Rattle.reader.specs.Answer.{fresh, startTold, readCall, told, groupRows, rowsLeft}
+use Rattle.reader.specs.Answer.{fresh, startTold, readCall, told}
 use Rattle.blocks.specs.Answer.{blocksStartRefusal, blocksStartCall, blocksReadCall}
 use Rattle.blocks.proofs.Judged.{either}
-use Rattle.slices.specs.Call.{Left, left, lengthsKept, ofMeaning, called}
+use Rattle.slices.specs.Call.{left, lengthsKept, ofMeaning, called}
 use Rattle.slices.proofs.Calls.{returns-zero, meant-zero}
-use Rattle.states.specs.States.{readerLength, readerOf, readerMeant}
-use Rattle.c_reader.specs.Calls.{stateLeft, ddsRead, readerLeft, rowsRead}
+use Rattle.states.specs.States.{readerOf, readerMeant}
+use Rattle.c_reader.specs.Calls.{ddsRead, readerLeft, rowsRead}
 use Rattle.c_blocks.specs.Calls.{blocksLength, readerPart, blockPart, blockOf, ddsBlocksStart, ddsBlocksRead, withBlock}
 use Rattle.c_blocks.proofs.Laws.{plain-call}
 

@@ -4,11 +4,10 @@
 use Prim.Native.Nat.{ℕ, _/_}
 use mathlib.Core.List.{List, [], _∷_, _++_}
 use lib.ListN.{length, take, drop}
-use Rattle.numbers.specs.Numbers.{bytesOf, inBytes, field}
+use Rattle.numbers.specs.Numbers.{numberAt, bytesOf, inBytes, field}
 use Rattle.answer.specs.declared.Told.{Told}
 use Rattle.answer.specs.declared.Told.the-variants.{Accepted}
 use Rattle.answer.specs.Answer.{accepted}
-use Rattle.reader.specs.declared.Reader.{Reader}
 use Rattle.reader.specs.Answer.{fresh, startTold, told, groupRows, rowsLeft}
 use Rattle.blocks.specs.Answer.{blocksStartCall, blocksReadCall}
 use Rattle.seek.specs.declared.Beginning.{Beginning}
@@ -53,6 +52,10 @@ findTold Elsewhere = accepted
 
 unfoldable pub ddsBlocksFind : (rows : List ℕ) (before b : ℕ) (answer : List ℕ) → Left
 ddsBlocksFind rows before b answer = called (answerKept answer) (findTold (findCall rows before b)) [] [] answer
+
+-- The offset in the answer slice of a search: the fourth of its six numbers.
+abbrev pub offsetSeen : Left → ℕ
+offsetSeen o = numberAt 4 (o .answer) 12
 
 -- What a start or a read leaves in the state slice, and a read in the rows.
 abbrev pub blocksLeft : Left → List ℕ

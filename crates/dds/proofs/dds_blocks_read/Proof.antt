@@ -1,8 +1,6 @@
 -- `dds_blocks_read` meets its contract: what refuses the read, or the plain call. Assumes nothing.
 use borrow.Author.Needs.{needs}
 use mathlib.Core.Path.{ap, _∙_}
-use Prim.Native.Nat.{ℕ}
-use mathlib.Core.List.{List}
 use native.Mathlib.Omega.{arith}
 use Rattle.slices.proofs.Calls.{lengths}
 use Rattle.c_reader.specs.Calls.{ddsRead}

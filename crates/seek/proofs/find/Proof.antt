@@ -1,7 +1,6 @@
 -- `find` meets its contract. Assumes nothing.
 use borrow.Author.Needs.{needs}
 use borrow.Author.Tests.{lt-ltb, le-ltb}
-use mathlib.Core.Path.{_∙_}
 use Rattle.seek.specs.Find.{findCall}
 use Rattle.seek.proofs.find.Statement.{statement}
 use Rattle.seek.proofs.find.Tie as tie
