@@ -2,7 +2,7 @@
 -- Assumes nothing.
 use Prim.Native.Nat.{ℕ}
 use native.Mathlib.Omega.{arith}
-use mathlib.Core.Path.{_≡_, refl, sym}
+use mathlib.Core.Path.{_≡_, refl, sym, ap}
 use mathlib.Core.Bool.{Bool, true, false, cond, not}
 use lib.Dec.{eqb}
 use Rattle.group.specs.State.{startRefusal}
@@ -13,14 +13,19 @@ use Rattle.reader.proofs.Accepted.{begun-at}
 use Rattle.blocks.specs.Answer.{blockSizeKept, blocksStartRefusal, blocksStartCall}
 
 module _ (size first block : ℕ) where
+  -- 50 comes "after 3".
+  comes-after : eqb (startRefusal size first) 0 ≡ false → blocksStartRefusal size first block ≡ startRefusal size first
+  unfolding blocksStartRefusal
+  comes-after x = ap (λ (b : Bool). cond b (cond (not (blockSizeKept block)) 50 0) (startRefusal size first)) x
+
   pub as-refused : (refusal : ℕ) → readerStartCall size first ≡ start.Refused refusal → start.Refused refusal ≡ blocksStartCall size first block
-  unfolding readerStartCall blocksStartCall blocksStartRefusal
+  unfolding readerStartCall blocksStartCall
   as-refused refusal e = by (eqb (startRefusal size first) 0) refl e
     where
       by : (b : Bool) → eqb (startRefusal size first) 0 ≡ b → cond b (start.Started (fresh size first)) (start.Refused (startRefusal size first)) ≡ start.Refused refusal →
           start.Refused refusal ≡ blocksStartCall size first block
       by true x h = let z : _≡_ {A = ℕ} 0 1 = cc in absurd (omega arith)
-      by false x h = rw (x, x) (sym h)
+      by false x h = rw (comes-after x, x) (sym h)
 
   pub out-of-range : (s : Reader) → readerStartCall size first ≡ start.Started s → blockSizeKept block ≡ false → start.Refused 50 ≡ blocksStartCall size first block
   unfolding blocksStartCall blocksStartRefusal

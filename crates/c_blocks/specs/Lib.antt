@@ -2,3 +2,4 @@
 -- contracts and proofs.
 pub mod Calls
 pub mod Contracts
+pub mod Worked
