@@ -187,8 +187,8 @@ extern "C" {
 /* ---- A track: block b at byte 35b; place 4b + p at byte 8(4b + p) of the items, and its number at byte 4(4b + p) of the
    numbers. p is 0, 1, 2 for a block's three items and 3 for its close. */
 
-#define DDS_BLOCKS       16u           /* blocks of a track, 0 to 15 */
-#define DDS_BLOCK_LEN    35u           /* one block */
+#define DDS_BLOCKS       16u           /* Sub Data Blocks of a track, 0 to 15 */
+#define DDS_BLOCK_LEN    35u           /* one Sub Data Block */
 #define DDS_BLOCK_SW1    0u            /* even block: Area ID over 1000; odd block: 0 */
 #define DDS_BLOCK_SW2    1u            /* b8 set; b7 to b5: Pack ID, 000 in an odd block; b4 to b1: block number */
 #define DDS_BLOCK_PARITY 2u            /* SW1 exclusive or SW2 */
@@ -416,8 +416,8 @@ uint32_t dds_blocks_start(uint32_t size, uint32_t first, uint32_t block, uint8_t
 
    Refusals in order: 1, 4; here a repeat is told; 5, 6, 7; then entry by entry from 1, and at one entry 8, 9, 10, one of 19
    to 22, 12, 13, 23, 51. So 51 at an entry comes before every refusal at a later one, and a total that is neither its sum nor
-   the block size is 22. Lent the first DDS_READER_LEN bytes of the state, dds_explain says why, but where the refusal is 51:
-   then it tells what dds_read does, which knows no block size. */
+   the block size is 22. Lent the first DDS_READER_LEN bytes of the state, dds_explain says why, but where the refusal is 51,
+   or 1 for the block size: then it tells what dds_read does, which knows no block size. */
 uint32_t dds_blocks_read(uint8_t *state, size_t state_len, const uint8_t *group, size_t group_len, uint32_t number,
                          uint32_t entries, uint8_t *rows, size_t rows_len, uint8_t *answer, size_t answer_len);
 
@@ -428,12 +428,12 @@ uint32_t dds_blocks_read(uint8_t *state, size_t state_len, const uint8_t *group,
    block   the number of the block
 
    Rows of kinds DDS_KIND_START and DDS_KIND_ENTIRE begin a block, one each; rows of any other number begin none.
-   DDS_OUTCOME_BEGINS: the block begins in these rows, and the answer has the offset of its row: there its first bytes stand
-   in the group, and the row's count says how many.
+   DDS_OUTCOME_BEGINS: the block begins in these rows, and the answer has the offset of its row. In the rows of an accepted read
+   that is where its first bytes stand in the group: the whole block, or, where it is spanned, all data from there on.
    DDS_OUTCOME_ELSEWHERE: it does not. A block below `before` begins in an earlier group. Nothing wraps where `before` and the
    rows come to more than 2^32 - 1 blocks.
    To go through a run, add to `before` the rows of these two kinds of each group that was accepted; a repeat has no rows and
-   adds none. A block that is spanned is found where it begins; its other parts are rows 3 and 5 of the groups behind.
+   adds none. A block that is spanned is found where it begins; its other parts are the rows of kinds 3 and 5 behind.
    Refusals: 1 by the answer's length. */
 uint32_t dds_blocks_find(const uint8_t *rows, size_t rows_len, uint32_t before, uint32_t block, uint8_t *answer,
                          size_t answer_len);
