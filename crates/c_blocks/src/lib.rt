@@ -1,9 +1,8 @@
-// Blocks of one size from C: a start, what a read does before the plain call, and a search. A read is made of this and the plain call where the
-// exports are, so that the plain call is compiled as if it had no other caller.
+// Blocks of one size from C: a start, a read, and a search.
 ghost use mathlib.Core.Path.{_≡_};
 ghost use mathlib.Core.List.{[], _∷_};
 ghost use Rattle.slices.specs.Call.{left};
-ghost use Rattle.c_blocks.specs.Calls.{ddsBlocksStart, findTold, ddsBlocksFind};
+ghost use Rattle.c_blocks.specs.Calls.{ddsBlocksStart, ddsBlocksRead, findTold, ddsBlocksFind};
 ghost use Rattle.c_blocks.specs.Contracts.{Judges};
 use answer::Told;
 use reader::ReaderStart;
@@ -32,7 +31,7 @@ pub fn start(size: u32, first: u32, block: u32, state: &mut [u8], answer: &mut [
 
 // Whether a read is refused before the plain reader comes to it, or in its stead: the refusal, which is told in the answer slice too. 0 where
 // the plain call on the first bytes of the state is the whole of it; then nothing is written.
-pub fn judge(
+fn judge(
     state: &[u8],
     group: &[u8],
     number: u32,
@@ -61,6 +60,34 @@ pub fn judge(
         return 0;
     }
     slices::tell(answer, Told::RefusedAt(51, other))
+}
+
+// Reads one group: its rows, and the state for the next. Where nothing of the profile refuses it, it is the plain call on the first bytes of the
+// state.
+pub fn read(
+    state: &mut [u8],
+    group: &[u8],
+    number: u32,
+    entries: u32,
+    rows: &mut [u8],
+    answer: &mut [u8],
+) -> u32
+    ensures { λ r. ⌜ left r (now (state .exit) ∷ now (rows .exit) ∷ []) (now (answer .exit)) ≡ ddsBlocksRead (now (state .entry)) (now (group .entry)) number entries (now (rows .entry)) (now (answer .entry)) ⌝ }
+{
+    let refusal = judge(state, group, number, entries, rows, answer);
+    if refusal != 0 {
+        return refusal;
+    }
+    let first = 0;
+    let behind = states::READER_LENGTH;
+    c_reader::read(
+        &mut state[first..behind],
+        group,
+        number,
+        entries,
+        rows,
+        answer,
+    )
 }
 
 // What a search tells of its answer.

@@ -53,7 +53,7 @@ fn finish(state: &mut [u8], answer: &mut [u8], done: ReadAnswer) -> u32
 }
 
 // Reads one group: its rows, and the state for the next.
-pub fn read(
+fn read_whole(
     state: &mut [u8],
     group: &[u8],
     number: u32,
@@ -72,4 +72,21 @@ pub fn read(
     let reader = states::reader_of(state);
     let done = reader.read_bytes(group, number, entries, rows);
     finish(state, answer, done)
+}
+
+// The same. Two calls share it, and the first of them should take no longer for that: the group is lent on as a part, the whole of it, so that
+// the compiler hands over its two words in registers, as C does, and the call from C is a jump.
+pub fn read(
+    state: &mut [u8],
+    group: &[u8],
+    number: u32,
+    entries: u32,
+    rows: &mut [u8],
+    answer: &mut [u8],
+) -> u32
+    ensures { λ r. ⌜ left r (now (state .exit) ∷ now (rows .exit) ∷ []) (now (answer .exit)) ≡ ddsRead (now (state .entry)) (now (group .entry)) number entries (now (rows .entry)) (now (answer .entry)) ⌝ }
+{
+    let first = 0;
+    let behind = group.len();
+    read_whole(state, &group[first..behind], number, entries, rows, answer)
 }

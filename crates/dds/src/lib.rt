@@ -1,5 +1,4 @@
-// The exports: one line for each call from C, but where one call is made of another. What each does is said and proved in the crate of its
-// room.
+// The exports: one line for each call from C. What each does is said and proved in the crate of its room.
 ghost use mathlib.Core.Path.{_≡_};
 ghost use mathlib.Core.List.{[], _∷_};
 ghost use Rattle.slices.specs.Call.{left};
@@ -36,9 +35,7 @@ pub extern "C" fn dds_read(
 ) -> u32
     ensures { λ r. ⌜ left r (now (state .exit) ∷ now (rows .exit) ∷ []) (now (answer .exit)) ≡ ddsRead (now (state .entry)) (now (group .entry)) number entries (now (rows .entry)) (now (answer .entry)) ⌝ }
 {
-    let first = 0;
-    let behind = group.len();
-    c_reader::read(state, &group[first..behind], number, entries, rows, answer)
+    c_reader::read(state, group, number, entries, rows, answer)
 }
 
 // Why a read with these arguments refuses. Nothing but the explanation is written.
@@ -70,8 +67,7 @@ pub extern "C" fn dds_blocks_start(
     c_blocks::start(size, first, block, state, answer)
 }
 
-// Reads one group of blocks: its rows, and the state for the next. Where no block refuses it, it is the plain call on the first bytes of the
-// state.
+// Reads one group of blocks: its rows, and the state for the next.
 #[no_mangle]
 pub extern "C" fn dds_blocks_read(
     state: &mut [u8],
@@ -83,20 +79,7 @@ pub extern "C" fn dds_blocks_read(
 ) -> u32
     ensures { λ r. ⌜ left r (now (state .exit) ∷ now (rows .exit) ∷ []) (now (answer .exit)) ≡ ddsBlocksRead (now (state .entry)) (now (group .entry)) number entries (now (rows .entry)) (now (answer .entry)) ⌝ }
 {
-    let refusal = c_blocks::judge(state, group, number, entries, rows, answer);
-    if refusal != 0 {
-        return refusal;
-    }
-    let first = 0;
-    let behind = states::READER_LENGTH;
-    dds_read(
-        &mut state[first..behind],
-        group,
-        number,
-        entries,
-        rows,
-        answer,
-    )
+    c_blocks::read(state, group, number, entries, rows, answer)
 }
 
 // Where a block begins, from a group's rows and the number of blocks begun before it.
