@@ -74,8 +74,8 @@ as-plain {block} (end-more {s} {t} {u} {g} {gs} {lent} {rows} old e x) =
     subst (λ (r : List ℕ). ToEnd s (g ∷ gs) (old ∷ lent) (r ∷ rows) u) (sym (rows-same block s t g old e (p .0))) (ToEnd.end-more old (p .0) (as-plain x))
 as-plain {block} (end-repeat {s} {u} {g} old e x) = ToEnd.end-repeat old (repeats-plainly block s s (g .bytes) (g .number) (g .entries) (length old) e) (as-plain x)
 
--- .. and no entry of another length is in a group that they accept: behind a group of the number `last`, and from a state in which no group
--- was accepted.
+-- .. and no entry of another length is in a group that they accept: behind a group of the number `last`, and from a state in
+-- which no group was accepted.
 kept-behind : {block : ℕ} {s u : Reader} {run : List Image} {lent rows : List (List ℕ)} (last : ℕ) → s .next ≡ last + 1 → ToEndBlocks block s run lent rows u → Each (Kept block (s .size)) (behind last run)
 unfolding behind
 kept-behind last n end-none = each-none

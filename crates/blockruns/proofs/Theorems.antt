@@ -82,9 +82,9 @@ module _ (size first block : ℕ) (s : Reader) (begins : blocksStartCall size fi
   sized : s .size ≡ size
   sized = ap (λ (r : Reader). r .size) (starts-plainly .1 .0)
 
-  -- "every entire entry has that count, every total equals it, separators are allowed": the profile accepts a run to its end, with these rows
-  -- and this state, exactly when the plain reader does, with the same, and every record finished in it has the block size. (That each image
-  -- is made of bytes is what a byte slice is.)
+  -- "every entire entry has that count, every total equals it, separators are allowed": the profile accepts a run to its end,
+  -- with these rows and this state, exactly when the plain reader does, with the same, and every record finished in it has the
+  -- block size. (That each image is made of bytes is what a byte slice is.)
   pub blocks-exactly : (run : List Image) (lent rows : List (List ℕ)) (final : Reader) → Each OfBytes run →
       ToEndBlocks block s run lent rows final ↔ (ToEnd s run lent rows final × Each (OfLength block) (itemsRead (withoutRepeats run) rows))
   blocks-exactly run lent rows final b = (
@@ -97,16 +97,16 @@ module _ (size first block : ℕ) (s : Reader) (begins : blocksStartCall size fi
       lays : ToEnd s run lent rows final → Lays size first (itemsRead (withoutRepeats run) rows) (begunRead (withoutRepeats run) rows) (withoutRepeats run)
       lays p = plainly.lawful size first s (starts-plainly .0) run lent rows final b p
 
-  -- A lawful layout of records of that length and separators is accepted to its end, with any repeats of L bytes in it and with any row
-  -- buffers, long enough where a group is no repeat.
+  -- A lawful layout of records of that length and separators is accepted to its end, with any repeats of L bytes in it and with
+  -- any row buffers, long enough where a group is no repeat.
   pub blocks-complete : (i : List Item) (b : List ℕ) (run : List Image) (lent : List (List ℕ)) → Lays size first i b (withoutRepeats run) → Each (OfLength block) i → Each (OfSize size) run → LentAmong run lent →
       (rows : List (List ℕ)) × ((final : Reader) × ToEndBlocks block s run lent rows final)
   blocks-complete i b run lent l x z e =
       let t = plainly.complete size first s (starts-plainly .0) i b run lent l z e in
       (t .rows, (t .final, blocks-run (starts-plainly .1 .1) none-yet (t .reads) (subst (λ (n : ℕ). Each (Kept block n) (withoutRepeats run)) (sym sized) (groups-kept l x))))
 
-  -- So a run is accepted to its end exactly when some list of records of that length and separators lays out to it, its repeats taken out. (Of
-  -- byte slices, as above, of "the run's group size": 4 comes before a repeat.)
+  -- So a run is accepted to its end exactly when some list of records of that length and separators lays out to it, its repeats
+  -- taken out. (Of byte slices, as above, of "the run's group size": 4 comes before a repeat.)
   pub blocks-laid : (run : List Image) → Each OfBytes run → Each (OfSize size) run →
       ((lent : List (List ℕ)) × ((rows : List (List ℕ)) × ((final : Reader) × ToEndBlocks block s run lent rows final)))
       ↔ ((i : List Item) × ((b : List ℕ) × (Lays size first i b (withoutRepeats run) × Each (OfLength block) i)))
@@ -117,13 +117,13 @@ module _ (size first block : ℕ) (s : Reader) (begins : blocksStartCall size fi
     λ x. (buffersFor run, blocks-complete (x .0) (x .1 .0) run (buffersFor run) (x .1 .1 .0) (x .1 .1 .1) z (lent-among (enough run))),
   )
 
-  -- "51 another record length": where the plain reader accepts a run to its end, the profile accepts it too, or refuses one of its groups with
-  -- 51 at an entry, and nothing else.
+  -- "51 another record length": where the plain reader accepts a run to its end, the profile accepts it too, or refuses one of
+  -- its groups with 51 at an entry, and nothing else.
   pub blocks-or-other : (run : List Image) (lent rows : List (List ℕ)) (final : Reader) → ToEnd s run lent rows final → ByProfile block s run lent rows final
   blocks-or-other run lent rows final x = by-profile (starts-plainly .1 .1) x
 
-  -- What our writer closed, handed in with any repeats of L bytes, is accepted, if every record finished up to the last close has that length;
-  -- and what is read is what was written.
+  -- What our writer closed, handed in with any repeats of L bytes, is accepted, if every record finished up to the last close
+  -- has that length; and what is read is what was written.
   pub blocks-written : (w : Desk) (run : List Image) (closed now : Account) → Wrote size first w run closed now → (handed : List Image) (lent : List (List ℕ)) → withoutRepeats handed ≡ run →
       Each (OfSize size) handed → LentAmong handed lent → Each (OfLength block) (closed .finished) →
       (rows : List (List ℕ)) × ((final : Reader) × (ToEndBlocks block s handed lent rows final × ((itemsRead run rows ≡ closed .finished) × (begunRead run rows ≡ closed .begun))))
@@ -161,8 +161,8 @@ module _ (size first block : ℕ) (state answer : List ℕ) where
         block-stays = ap blockPart (sym (r .bytes)) ∙ block-is (r .last) block;
       }
 
-  -- It is, its repeats taken out, a lawful layout of what the numbers in the row slices and the bytes give, and every record finished in it has
-  -- the block size.
+  -- It is, its repeats taken out, a lawful layout of what the numbers in the row slices and the bytes give, and every record
+  -- finished in it has the block size.
   pub c-blocks-lawful : (run : List Image) (loans : List Loan) → Each OfBytes run → (a : ReadBlocksC size first block state answer run loans) →
       Lays size first (itemsRead (withoutRepeats run) (a .rows)) (begunRead (withoutRepeats run) (a .rows)) (withoutRepeats run) × Each (OfLength block) (itemsRead (withoutRepeats run) (a .rows))
   c-blocks-lawful run loans b a =
@@ -171,8 +171,8 @@ module _ (size first block : ℕ) (state answer : List ℕ) where
       let (p, k) = blocks-exactly size first block (fresh size first) s run (numbersLent loans) (a .rows) (r .last) b .0 (r .own) in
       (plainly.lawful size first (fresh size first) (starts-plainly size first block (fresh size first) s .0) run (numbersLent loans) (a .rows) (r .last) b p, k)
 
-  -- A lawful layout of records of that length is read to its end, with any repeats of L bytes in it, whatever they hold, and with any slices, those
-  -- for rows long enough where a group is no repeat.
+  -- A lawful layout of records of that length is read to its end, with any repeats of L bytes in it, whatever they hold, and
+  -- with any slices, those for rows long enough where a group is no repeat.
   pub c-blocks-complete : (i : List Item) (b : List ℕ) (run : List Image) (loans : List Loan) → Lays size first i b (withoutRepeats run) → Each (OfLength block) i → Each (OfSize size) run →
       blockSizeKept block ≡ true → length state ≡ blocksLength → length answer ≡ answerLength → LentAmongC run loans → ReadBlocksC size first block state answer run loans
   c-blocks-complete i b run loans l x z k e f lent =
@@ -188,8 +188,8 @@ module _ (size first block : ℕ) (state answer : List ℕ) where
         reads = subst (λ (y : List ℕ). ToEndBlocksC y run loans rows (both final block)) (sym (begun-c zero .1 .1)) made;
       }
 
-  -- So a run is read to its end exactly when some list of records of that length and separators lays out to it, its repeats taken out. (Of byte
-  -- slices, of "the run's group size".)
+  -- So a run is read to its end exactly when some list of records of that length and separators lays out to it, its repeats
+  -- taken out. (Of byte slices, of "the run's group size".)
   pub c-blocks-exactly : (run : List Image) (loans : List Loan) → Each OfBytes run → Each (OfSize size) run → blockSizeKept block ≡ true → length state ≡ blocksLength → length answer ≡ answerLength → LentAmongC run loans →
       ReadBlocksC size first block state answer run loans ↔ ((i : List Item) × ((b : List ℕ) × (Lays size first i b (withoutRepeats run) × Each (OfLength block) i)))
   c-blocks-exactly run loans b z k e f l = (
@@ -223,8 +223,9 @@ none-seen rows before k told long e =
     let o : ddsBlocksFind rows before k told ≡ left 0 [] (inBytes (0 ∷ 0 ∷ 0 ∷ 0 ∷ 0 ∷ 0 ∷ [])) = rw (eq-eqb (length told) answerLength long, e) in
     ap outcomeSeen o ∙ field-of-bytes (0 ∷ 0 ∷ 0 ∷ 0 ∷ 0 ∷ 0 ∷ []) 2 (omega arith) (omega arith)
 
--- "From a group's rows .. and the number of blocks begun before it": of any group g of a lawful run, with the pieces ps in its layout, that
--- dds_blocks_read accepted. The search is lent the first 12n bytes of the rows that the read left, and `told` for its answer.
+-- "From a group's rows .. and the number of blocks begun before it": of any group g of a lawful run, with the pieces ps in its
+-- layout, that dds_blocks_read accepted. The search is lent the first 12n bytes of the rows that the read left, and `told` for
+-- its answer.
 module _ {size first : ℕ} {i : List Item} {b : List ℕ} {run : List Image} (l : Lays size first i b run) (beginning rest : List Image) (g : Image) (before behind : List (List Piece))
     (ps : List Piece) (parts : run ≡ beginning ++ (g ∷ rest)) (groups : l .groups ≡ before ++ (ps ∷ behind)) (place : length before ≡ length beginning)
     (state rows answer told : List ℕ) (sizes : readerOf (readerPart state) .size ≡ size) (zero : ddsBlocksRead state (g .bytes) (g .number) (g .entries) rows answer .refusal ≡ 0)
@@ -248,7 +249,8 @@ module _ {size first : ℕ} {i : List Item} {b : List ℕ} {run : List Image} (l
       let (least, most) = within 64 size 126632 (l .sized) in
       omega (arith, block-within l beginning rest g before behind ps parts groups place (readerOf (readerPart state)) sizes k offset r)
 
-  -- "the profile answers the offset in the row of block b": outcome 1 and this offset exactly where block k begins there in this group ..
+  -- "the profile answers the offset in the row of block b": outcome 1 and this offset exactly where block k begins there in
+  -- this group ..
   pub c-block-found : (k offset : ℕ) → ((outcomeSeen (sought k) ≡ 1) × (offsetSeen (sought k) ≡ offset)) ↔ BeginsAt ps (begunIn before) k offset
   c-block-found k offset = (λ z. by (findCall lentRows (begunIn before) k) refl z, λ r. found-seen lentRows (begunIn before) k told offset long (small k offset r) (there k offset .1 r))
     where

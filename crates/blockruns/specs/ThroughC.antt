@@ -14,8 +14,8 @@ use Rattle.c_blocks.specs.Calls.{readerPart, blockPart, ddsBlocksStart, ddsBloc
 use Rattle.trip.specs.ThroughC.{Loan, numbersLent, ToEndC}
 use Rattle.blockruns.specs.Stated.{ToEndBlocks}
 
--- As a reading from C is: each read is lent its loan and returns 0. Outcome 0 says that the group is accepted, and the numbers of its rows
--- are listed; outcome 2 that it is a repeat.
+-- As a reading from C is: each read is lent its loan and returns 0. Outcome 0 says that the group is accepted, and the numbers
+-- of its rows are listed; outcome 2 that it is a repeat.
 pub data ToEndBlocksC : List ℕ → List Image → List Loan → List (List ℕ) → List ℕ → Type 0 where
   end-none : {state : List ℕ} → ToEndBlocksC state [] [] [] state
   end-more : {state final : List ℕ} {g : Image} {gs : List Image} {loan : Loan} {loans : List Loan} {rows : List (List ℕ)} {o : Left} →
@@ -27,16 +27,17 @@ pub data ToEndBlocksC : List ℕ → List Image → List Loan → List (List ℕ
       o .refusal ≡ 0 → outcomeSeen o ≡ 2 → ToEndBlocksC (blocksLeft o) gs loans rows final →
       ToEndBlocksC state (g ∷ gs) (loan ∷ loans) rows final
 
--- A run of blocks that C reads to its end: the start returned 0, and from the state slice that it left every read did, lent just these
--- slices.
+-- A run of blocks that C reads to its end: the start returned 0, and from the state slice that it left every read did, lent
+-- just these slices.
 pub record ReadBlocksC (size first block : ℕ) (state answer : List ℕ) (run : List Image) (loans : List Loan) : Type 0 where
   pub starts : ddsBlocksStart size first block state answer .refusal ≡ 0
   pub rows : List (List ℕ)
   pub final : List ℕ
   pub reads : ToEndBlocksC (blocksLeft (ddsBlocksStart size first block state answer)) run loans rows final
 
--- The profile's own reads read the same; and so do the plain calls, from the plain start, on the first 24 bytes of the state: the same groups are
--- accepted, the same are repeats, the rows are the same, and behind the last the first 24 bytes of the state. The block size stays.
+-- The profile's own reads read the same; and so do the plain calls, from the plain start, on the first 24 bytes of the state:
+-- the same groups are accepted, the same are repeats, the rows are the same, and behind the last the first 24 bytes of the
+-- state. The block size stays.
 pub record ReadsAlike (size first block : ℕ) (state answer : List ℕ) (run : List Image) (loans : List Loan) (rows : List (List ℕ)) (final : List ℕ) : Type 0 where
   pub last : Reader
   pub own : ToEndBlocks block (fresh size first) run (numbersLent loans) rows last

@@ -1,5 +1,5 @@
--- What the profile's read answers beside the plain one, by the first entry of another length: one law an exit. And what it accepts and
--- repeats.
+-- What the profile's read answers beside the plain one, by the first entry of another length: one law an exit. And what it
+-- accepts and repeats.
 -- Assumes nothing.
 use Prim.Native.Nat.{ℕ, _-_}
 use native.Mathlib.Omega.{arith}

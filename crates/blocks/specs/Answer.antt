@@ -1,5 +1,5 @@
--- Change request 2026-09: what the profile's start and its read answer. The state is the plain reader's, and the block size, which no
--- read changes. So the answers are the plain reader's too, and with them what is told and what is left.
+-- Change request 2026-09: what the profile's start and its read answer. The state is the plain reader's, and the block size,
+-- which no read changes. So the answers are the plain reader's too, and with them what is told and what is left.
 -- Assumes nothing.
 use Prim.Native.Nat.{ℕ, _-_}
 use mathlib.Core.List.{List}
@@ -36,8 +36,8 @@ unfoldable pub blocksScan : (block : ℕ) → Reader → List ℕ → ℕ → Sc
 blocksScan block s group n =
     blockScan block (s .size) (entryOffset (s .size) n) (entriesBelow group (s .size - informationLength) n) 1 (opening s)
 
--- What a read answers that is lent rows for `room` numbers: of a block size out of range, "in a state, 1"; then all as the plain reader
--- has it, a repeat with it, and the profile's scan.
+-- What a read answers that is lent rows for `room` numbers: of a block size out of range, "in a state, 1"; then all as the
+-- plain reader has it, a repeat with it, and the profile's scan.
 unfoldable pub blocksReadCall : (block : ℕ) → Reader → (group : List ℕ) (number n room : ℕ) → ReadAnswer
 blocksReadCall block s group number n room =
     cond (not (blockSizeKept block)) (answer.Refused s 1 0)

@@ -1,5 +1,5 @@
--- Serves contracts and proofs only: the first of some entries that breaks the rule of a block, whatever the reader says of them, and what a
--- read answers by it.
+-- Serves contracts and proofs only: the first of some entries that breaks the rule of a block, whatever the reader says of
+-- them, and what a read answers by it.
 -- Assumes nothing.
 use Prim.Native.Nat.{ℕ, suc}
 use mathlib.Core.List.{List, [], _∷_}

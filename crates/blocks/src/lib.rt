@@ -1,5 +1,5 @@
-// Change request 2026-09: a profile beside the plain reader, for computers that write blocks of one size. It starts with a block size, and
-// tells where a read refuses a record of another length. All else of a read is the plain reader's.
+// Change request 2026-09: a profile beside the plain reader, for computers that write blocks of one size. It starts with a
+// block size, and tells where a read refuses a record of another length. All else of a read is the plain reader's.
 mod rule;
 
 ghost use mathlib.Core.Path.{_≡_};
@@ -33,8 +33,8 @@ pub fn start(size: u32, first: u32, block: u32) -> ReaderStart
     }
 }
 
-// The place of the entry at which a read refuses with 51; 0 where it answers as the plain reader does. A group in which every record has the
-// block size is looked through once, and not scanned here.
+// The place of the entry at which a read refuses with 51; 0 where it answers as the plain reader does. A group in which every
+// record has the block size is looked through once, and not scanned here.
 pub fn other_place(
     reader: Reader,
     block: u32,

@@ -51,7 +51,8 @@ start-told size first block e = by (eqb (blocksStartRefusal size first block) 0)
     by true p z = refl
     by false p z = absurd (eqb-false (blocksStartRefusal size first block) 0 p z)
 
--- "a block size is chosen at start": a start returns 0 exactly where the slices are of their lengths and the profile's own start starts.
+-- "a block size is chosen at start": a start returns 0 exactly where the slices are of their lengths and the profile's own
+-- start starts.
 pub blocks-start-zero : (size first block : ℕ) (state answer : List ℕ) →
     (ddsBlocksStart size first block state answer .refusal ≡ 0) ↔ ((lengthsKept (length state) blocksLength (length answer) ≡ true) × (blocksStartCall size first block ≡ start.Started (fresh size first)))
 unfolding ddsBlocksStart
@@ -62,8 +63,8 @@ blocks-start-zero size first block state answer =
     )
 
 module _ (state group : List ℕ) (number n : ℕ) (rows answer : List ℕ) where
-  -- A read that returns 0: the slices are of their lengths, the numbers of the state have a meaning, and the profile's own answer is the plain
-  -- reader's.
+  -- A read that returns 0: the slices are of their lengths, the numbers of the state have a meaning, and the profile's own
+  -- answer is the plain reader's.
   pub blocks-returned : ddsBlocksRead state group number n rows answer .refusal ≡ 0 →
       (lengthsKept (length state) blocksLength (length answer) ≡ true)
       × (blocksReadCall (blockOf state) (readerOf (readerPart state)) group number n (length rows / 4) ≡ readCall (readerOf (readerPart state)) group number n (length rows / 4))
@@ -84,8 +85,8 @@ module _ (state group : List ℕ) (number n : ℕ) (rows answer : List ℕ) wher
       by z (inl same) = same
       by z (inr r) = absurd (r .1 .1 .1 (sym (ap (λ (a : ReadAnswer). refusalTold (told a)) (r .1 .1 .0)) ∙ z))
 
-  -- "a profile beside the plain reader": what a read leaves that returns 0 is what the plain call on the first 24 bytes of the state leaves, and
-  -- the block size behind it.
+  -- "a profile beside the plain reader": what a read leaves that returns 0 is what the plain call on the first 24 bytes of the
+  -- state leaves, and the block size behind it.
   pub blocks-plainly : ddsBlocksRead state group number n rows answer .refusal ≡ 0 →
       withBlock (blockPart state) (ddsRead (readerPart state) group number n rows answer) ≡ ddsBlocksRead state group number n rows answer
   blocks-plainly e =

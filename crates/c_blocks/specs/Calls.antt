@@ -1,5 +1,5 @@
--- Change request 2026-09: what the three calls on blocks of one size return and what they leave in every slice that they may write, for
--- every input.
+-- Change request 2026-09: what the three calls on blocks of one size return and what they leave in every slice that they may
+-- write, for every input.
 -- Assumes nothing.
 use Prim.Native.Nat.{ℕ, _/_}
 use mathlib.Core.List.{List, [], _∷_, _++_}
@@ -36,8 +36,8 @@ ddsBlocksStart size first block state answer =
     called (lengthsKept (length state) blocksLength (length answer)) (startTold (blocksStartCall size first block))
     ((readerBytes (fresh size first) ++ bytesOf 4 block) ∷ []) (state ∷ []) answer
 
--- "a profile beside the plain reader": a read, with what the plain reader leaves in its part of the state and in the rows. The block size
--- stays.
+-- "a profile beside the plain reader": a read, with what the plain reader leaves in its part of the state and in the rows. The
+-- block size stays.
 unfoldable pub ddsBlocksRead : (state group : List ℕ) (number n : ℕ) (rows answer : List ℕ) → Left
 ddsBlocksRead state group number n rows answer =
     let s = readerOf (readerPart state) in

@@ -11,8 +11,8 @@ use Rattle.slices.specs.Call.{left, lengthsKept}
 use Rattle.states.specs.States.{readerOf}
 use Rattle.c_blocks.specs.Calls.{blocksLength, readerPart, blockOf, ddsBlocksRead}
 
--- A number that is not 0 is returned, and the call is over. With 0 the answer slice is as it was, the slices are of their lengths, and the
--- plain reader's own answer is the profile's.
+-- A number that is not 0 is returned, and the call is over. With 0 the answer slice is as it was, the slices are of their
+-- lengths, and the plain reader's own answer is the profile's.
 pub record Judges (state group : List ℕ) (number n : ℕ) (rows answer : List ℕ) (refusal : ℕ) (told : List ℕ) : Type 0 where
   pub refused : (refusal ≡ 0 → ⊥) → left refusal (state ∷ rows ∷ []) told ≡ ddsBlocksRead state group number n rows answer
   pub stays : refusal ≡ 0 → told ≡ answer

@@ -1,4 +1,5 @@
--- Change request 2026-09: blocks of one size from C, with every byte worked out by hand. 126,632 is 01 EE A8, 513 is 02 01, 300 is 01 2C.
+-- Change request 2026-09: blocks of one size from C, with every byte worked out by hand. 126,632 is 01 EE A8, 513 is 02 01, 300
+-- is 01 2C.
 -- Assumes nothing.
 use Prim.Native.Nat.{ℕ}
 use mathlib.Core.List.{List, [], _∷_, _++_}
@@ -6,7 +7,8 @@ use lib.ListN.{replicate}
 use Rattle.slices.specs.Call.{Left, left}
 use Rattle.c_blocks.specs.Calls.{ddsBlocksStart, ddsBlocksRead, ddsBlocksFind}
 
--- Slices of EE: a start with blocks of 300 bytes; block size 0; 16,777,216; first number 0 as well, which is 3; a state slice of 24 bytes.
+-- Slices of EE: a start with blocks of 300 bytes; block size 0; 16,777,216; first number 0 as well, which is 3; a state slice
+-- of 24 bytes.
 abbrev pub startsShown : List Left
 startsShown =
     ddsBlocksStart 126632 513 300 (replicate 28 0xEE) (replicate 24 0xEE)
@@ -40,8 +42,8 @@ groupOf entire flag count = replicate 24 0x41 ++ (flag ∷ 0 ∷ 0 ∷ count ∷
 abbrev pub readOf : (state group : List ℕ) → Left
 readOf state group = ddsBlocksRead state group 1 2 (replicate 25 0xEE) (replicate 24 0xEE)
 
--- Five bytes and a skip of 59, in blocks of 5; in blocks of 6; the same record before flag 43, in blocks of 5 and of 6; an entire record of 0
--- bytes; block size 0; the group once more, as a repeat.
+-- Five bytes and a skip of 59, in blocks of 5; in blocks of 6; the same record before flag 43, in blocks of 5 and of 6; an
+-- entire record of 0 bytes; block size 0; the group once more, as a repeat.
 abbrev pub readsShown : List Left
 readsShown =
     readOf (stateWith 1 0 5) (groupOf 5 0x80 0x3B)

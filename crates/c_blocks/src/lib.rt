@@ -29,8 +29,8 @@ pub fn start(size: u32, first: u32, block: u32, state: &mut [u8], answer: &mut [
     }
 }
 
-// Whether a read is refused before the plain reader comes to it, or in its stead: the refusal, which is told in the answer slice too. 0 where
-// the plain call on the first bytes of the state is the whole of it; then nothing is written.
+// Whether a read is refused before the plain reader comes to it, or in its stead: the refusal, which is told in the answer
+// slice too. 0 where the plain call on the first bytes of the state is the whole of it; then nothing is written.
 fn judge(
     state: &[u8],
     group: &[u8],
@@ -62,8 +62,8 @@ fn judge(
     slices::tell(answer, Told::RefusedAt(51, other))
 }
 
-// Reads one group: its rows, and the state for the next. Where nothing of the profile refuses it, it is the plain call on the first bytes of the
-// state.
+// Reads one group: its rows, and the state for the next. Where nothing of the profile refuses it, it is the plain call on the
+// first bytes of the state.
 pub fn read(
     state: &mut [u8],
     group: &[u8],

@@ -1,6 +1,6 @@
-// The scan of a group's table with nothing but the rules, for what is in no haste: an explanation, and a group with a block of another
-// length. The quick scan has one caller, the read, so that the compiler builds it into that one. The leaf has a `requires`, on a group that
-// was refused nothing before its scan.
+// The scan of a group's table with nothing but the rules, for what is in no haste: an explanation, and a group with a block of
+// another length. The quick scan has one caller, the read, so that the compiler builds it into that one. The leaf has a
+// `requires`, on a group that was refused nothing before its scan.
 ghost use mathlib.Core.Path.{_≡_};
 ghost use Prim.Native.Nat.{_-_};
 ghost use Rattle.group.specs.Sizes.{informationLength, entryOffset};

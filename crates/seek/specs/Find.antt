@@ -20,7 +20,7 @@ beginning rows at (suc left) b =
     cond (begins (numberAt 4 rows at)) (cond (eqb b 0) (At (numberAt 4 rows (at + 4))) (beginning rows (at + 12) left (b - 1)))
     (beginning rows (at + 12) left b)
 
--- "From a group's rows, any at all, and the number of blocks begun before it, the profile answers the offset in the row of block b, .. or
--- that b doesn't begin there." Up to 11 bytes at the end are no whole row.
+-- "From a group's rows, any at all, and the number of blocks begun before it, the profile answers the offset in the row of
+-- block b, .. or that b doesn't begin there." Up to 11 bytes at the end are no whole row.
 unfoldable pub findCall : (rows : List ℕ) (before b : ℕ) → Beginning
 findCall rows before b = cond (ltb b before) Elsewhere (beginning rows 0 (length rows / 12) (b - before))

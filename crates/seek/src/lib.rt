@@ -1,5 +1,5 @@
-// Change request 2026-09: where a block begins among a group's rows, twelve bytes each. Blocks are counted by the rows alone, so any bytes
-// will do.
+// Change request 2026-09: where a block begins among a group's rows, twelve bytes each. Blocks are counted by the rows alone,
+// so any bytes will do.
 ghost use mathlib.Core.Path.{_≡_};
 ghost use Prim.Native.Nat.{_/_};
 ghost use lib.ListN.{length};
