@@ -20,7 +20,7 @@ use Rattle.layout.specs.Items.Piece.{aTotal, aSeparator, aMiddle, aStart, aLast
 use Rattle.layout.specs.Items.Token.{piece, groupEnd}
 use Rattle.layout.specs.Layout.{kindOf, countOf, b4After, plainLeft, entriesOf}
 use Rattle.layout.proofs.Assembled.{piecesIn}
-use Rattle.blocks.specs.Bounds.{otherAt}
+use Rattle.blockrule.specs.Bounds.{otherAt}
 use Rattle.blockruns.specs.Stated.{OfLength}
 
 -- The counts of totals and entire pieces.

@@ -31,9 +31,9 @@ use Rattle.layout.proofs.Grammar.{Walk}
 use Rattle.layout.proofs.Assembled.{flat}
 use Rattle.layout.proofs.Decode.{entries-back}
 use Rattle.layout.proofs.Complete.{past}
-use Rattle.blocks.specs.Rule.{blockKept}
+use Rattle.blockrule.specs.Rule.{blockKept}
 use Rattle.blocks.specs.Answer.{blockSizeKept, blocksReadCall}
-use Rattle.blocks.specs.Bounds.{otherAt}
+use Rattle.blockrule.specs.Bounds.{otherAt}
 use Rattle.blocks.proofs.Judged.{accepts-plainly, repeats-plainly, plainly-accepts, plainly-repeats, other-refused}
 use Rattle.blockruns.specs.Stated.{ToEndBlocks, ByProfile}
 use Rattle.blockruns.specs.Stated.ToEndBlocks.{end-none, end-more, end-repeat}

@@ -19,9 +19,10 @@ use Rattle.reader.specs.declared.ReadAnswer.the-variants as answer
 use Rattle.reader.specs.Answer.{opening, isRepeat, readRefusal, groupScan, answered, readCall}
 use Rattle.reader.proofs.Accepted.{accepted, repeated, not-refused, repeat-five, never-repeat, read-scanned}
 use Rattle.blocks.specs.Answer.{blockSizeKept, blocksScan, blocksReadCall}
-use Rattle.blocks.specs.Bounds.{otherAt, unlessOther}
-use Rattle.blocks.proofs.Merged.{stoppedBy, Beside, merged}
-use Rattle.blocks.proofs.Merged.Beside.{none-other, stopped-before, other-first}
+use Rattle.blockrule.specs.Bounds.{otherAt}
+use Rattle.blocks.specs.Bounds.{unlessOther}
+use Rattle.blockrule.proofs.Merged.{stoppedBy, Beside, merged}
+use Rattle.blockrule.proofs.Merged.Beside.{none-other, stopped-before, other-first}
 
 module _ (block : ℕ) (s : Reader) (group : List ℕ) (number n room : ℕ) where
   -- The place of the group's first entry of another length, 0 for none.

@@ -17,7 +17,7 @@ use Rattle.reader.specs.declared.ReaderStart.the-variants as start
 use Rattle.reader.specs.declared.ReadAnswer.{ReadAnswer}
 use Rattle.reader.specs.declared.ReadAnswer.the-variants as answer
 use Rattle.reader.specs.Answer.{fresh, opening, isRepeat, readRefusal, answered}
-use Rattle.blocks.specs.Rule.{blockScan}
+use Rattle.blockrule.specs.Rule.{blockScan}
 
 -- "a block size is chosen at start, 1 to 16,777,215"
 abbrev pub blockSizeKept : ℕ → Bool

@@ -1,7 +1,5 @@
 // Change request 2026-09: a profile beside the plain reader, for computers that write blocks of one size. It starts with a
 // block size, and tells where a read refuses a record of another length. All else of a read is the plain reader's.
-mod rule;
-
 ghost use mathlib.Core.Path.{_≡_};
 ghost use mathlib.Core.Bool.{true};
 ghost use Rattle.reader.specs.Answer.{readCall};
@@ -49,7 +47,7 @@ pub fn other_place(
     if reader.refusal(group.len(), number, entries, room) != 0 {
         return 0;
     }
-    let other = rule::other_at(group, reader.size, entries, block);
+    let other = blockrule::other_at(group, reader.size, entries, block);
     if other == 0 {
         return 0;
     }

@@ -9,7 +9,7 @@ use Rattle.group.specs.State.{runSound, startRefusal}
 use Rattle.entry.specs.Rules.{mayFollow, entryFault}
 use Rattle.rows.specs.Rows.{rowsFrom}
 use Rattle.reader.specs.Answer.{isRepeat, readRefusal, groupRows}
-use Rattle.blocks.specs.Rule.{blockScan}
+use Rattle.blockrule.specs.Rule.{blockScan}
 use Rattle.blocks.specs.Answer.{blocksStartRefusal, blocksStartCall, blocksScan, blocksReadCall}
 use Rattle.seek.specs.Find.{beginning, findCall}
 use Rattle.slices.specs.Call.{lengthsKept, called}

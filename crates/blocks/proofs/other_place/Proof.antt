@@ -7,7 +7,7 @@ use Rattle.entry.specs.declared.ScanEnd.{ScanEnd}
 use Rattle.entry.specs.Scan.{scan}
 use Rattle.reader.specs.Answer.{groupScan}
 use Rattle.reader.proofs.Accepted.{ready, cut, begins}
-use Rattle.blocks.proofs.Merged.{stoppedBy}
+use Rattle.blockrule.proofs.Merged.{stoppedBy}
 use Rattle.blocks.proofs.Judged.{before-the-scan, none-differs, plain-first, other-told}
 use Rattle.blocks.proofs.other_place.Statement.{statement}
 use Rattle.blocks.proofs.other_place.Tie as tie

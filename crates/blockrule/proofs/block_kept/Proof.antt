@@ -1,8 +1,8 @@
 -- `block_kept` meets its contract. Assumes nothing.
 use borrow.Author.Needs.{needs}
 use Rattle.numbers.proofs.Tests.{fails, holds}
-use Rattle.blocks.proofs.rule.block_kept.Statement.{statement}
-use Rattle.blocks.proofs.rule.block_kept.Tie as tie
+use Rattle.blockrule.proofs.block_kept.Statement.{statement}
+use Rattle.blockrule.proofs.block_kept.Tie as tie
 
 pub block-kept-spec : {M : Type 1} → statement M
 block-kept-spec =

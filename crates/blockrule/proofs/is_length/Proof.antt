@@ -11,9 +11,9 @@ use Rattle.group.specs.declared.Meaning.{Meaning}
 use Rattle.group.specs.declared.Meaning.the-variants.{Known, Unknown}
 use Rattle.group.specs.Flags.{flagOf, meaningOf}
 use Rattle.group.proofs.FlagLaws.{flag-of-meaning}
-use Rattle.blocks.specs.Rule.{isLength}
-use Rattle.blocks.proofs.rule.is_length.Statement.{statement}
-use Rattle.blocks.proofs.rule.is_length.Tie as tie
+use Rattle.blockrule.specs.Rule.{isLength}
+use Rattle.blockrule.proofs.is_length.Statement.{statement}
+use Rattle.blockrule.proofs.is_length.Tie as tie
 
 -- A flag that is none of the first three is a total's or an entire record's just where it is the fourth.
 not-fourth : (k : Kind) (w : Bool) (flag : ℕ) → meaningOf flag ≡ Known k w → eqb (flagOf k w) 107 ≡ false → eqb flag 107 ≡ false

@@ -1,12 +1,12 @@
-// The rule of a block over a group's entries.
+// Change request 2026-09: the rule of a block over a group's entries. The leaf has a `requires`, on a group whose table fits.
 ghost use mathlib.Core.Path.{_≡_};
 ghost use Prim.Native.Nat.{_+_, _*_, _-_, _≤_};
 ghost use lib.ListN.{length};
 ghost use Rattle.group.specs.Sizes.{informationLength, entryLength};
 ghost use Rattle.group.specs.Flags.{meaningOf};
 ghost use Rattle.group.specs.Entries.{entriesBelow};
-ghost use Rattle.blocks.specs.Rule.{isLength, blockKept};
-ghost use Rattle.blocks.specs.Bounds.{otherAt};
+ghost use Rattle.blockrule.specs.Rule.{isLength, blockKept};
+ghost use Rattle.blockrule.specs.Bounds.{otherAt};
 use group::Group;
 
 // Whether a flag is a total's or an entire record's, whose count is the length of a whole record.
@@ -36,7 +36,7 @@ fn block_kept(flag: u8, count: u32, block: u32) -> bool
 }
 
 // The place of the first entry of a group that breaks the rule, 0 where none does.
-pub(crate) fn other_at(group: &[u8], size: u32, entries: u32, block: u32) -> u32
+pub fn other_at(group: &[u8], size: u32, entries: u32, block: u32) -> u32
     requires { ⌜ (informationLength + entryLength * entries ≤ size) × (size ≤ length (now group)) ⌝ }
     ensures { λ r. ⌜ r ≡ otherAt block (entriesBelow (now (group .entry)) (size - informationLength) entries) 1 ⌝ }
 {

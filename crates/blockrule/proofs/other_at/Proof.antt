@@ -6,10 +6,10 @@ use Prim.Native.Nat.{ℕ, _-_, _≤_}
 use native.Mathlib.Omega.{arith}
 use Rattle.numbers.proofs.Tests.{fails, holds}
 use Rattle.group.specs.Entries.{entriesBelow}
-use Rattle.blocks.specs.Bounds.{otherAt}
-use Rattle.blocks.proofs.Turns.{otherLeft, all-left, none-left, found-here, kept-here}
-use Rattle.blocks.proofs.rule.other_at.Statement.{statement}
-use Rattle.blocks.proofs.rule.other_at.Tie as tie
+use Rattle.blockrule.specs.Bounds.{otherAt}
+use Rattle.blockrule.proofs.Turns.{otherLeft, all-left, none-left, found-here, kept-here}
+use Rattle.blockrule.proofs.other_at.Statement.{statement}
+use Rattle.blockrule.proofs.other_at.Tie as tie
 
 record Held (block size entries : ℕ) (group : List ℕ) (left : ℕ) : Type 0 where
   most : left ≤ entries

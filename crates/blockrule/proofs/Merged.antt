@@ -15,8 +15,8 @@ use Rattle.entry.specs.declared.ScanEnd.{ScanEnd}
 use Rattle.entry.specs.declared.ScanEnd.the-variants.{Reached, Refused}
 use Rattle.entry.specs.Rules.{entryFault}
 use Rattle.entry.specs.Scan.{after, isLast, scan}
-use Rattle.blocks.specs.Rule.{blockKept, blockScan}
-use Rattle.blocks.specs.Bounds.{otherAt}
+use Rattle.blockrule.specs.Rule.{blockKept, blockScan}
+use Rattle.blockrule.specs.Bounds.{otherAt}
 
 -- Whether a scan has stopped at this place or before it.
 abbrev pub stoppedBy : (place : ℕ) → ScanEnd → Bool

@@ -9,8 +9,8 @@ use Rattle.group.specs.declared.Entry.{Entry}
 use Rattle.group.specs.Sizes.{entryOffset}
 use Rattle.group.specs.Flags.{meaningOf}
 use Rattle.group.specs.Entries.{entryAt, entriesBelow}
-use Rattle.blocks.specs.Rule.{blockKept}
-use Rattle.blocks.specs.Bounds.{otherAt}
+use Rattle.blockrule.specs.Rule.{blockKept}
+use Rattle.blockrule.specs.Bounds.{otherAt}
 
 -- The first of those that are left.
 abbrev pub otherLeft : (block size n : ℕ) (group : List ℕ) (left : ℕ) → ℕ
