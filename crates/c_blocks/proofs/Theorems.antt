@@ -3,11 +3,9 @@
 use Prim.Native.Nat.{ℕ, _/_}
 use mathlib.Core.Path.{_≡_, refl, sym, ap, _∙_}
 use mathlib.Core.Logic.{_↔_, _⊎_, inl, inr}
-use mathlib.Core.Bool.{Bool, true, false, cond}
+use mathlib.Core.Bool.{Bool, true, false}
 use mathlib.Core.List.{List, [], _∷_}
-use lib.Dec.{eqb}
 use lib.ListN.{length}
-use borrow.Author.Tests.{eqb-false}
 use Rattle.answer.specs.declared.Told.{Told}
 use Rattle.answer.specs.declared.Told.the-variants.{Accepted, RefusedAt}
 use Rattle.answer.specs.Answer.{refusalTold}
@@ -22,6 +20,7 @@ use Rattle.blocks.proofs.Judged.{either}
 use Rattle.slices.specs.Call.{left, lengthsKept, ofMeaning, called}
 use Rattle.slices.proofs.Calls.{returns-zero, meant-zero}
 use Rattle.states.specs.States.{readerOf, readerMeant}
+use Rattle.c_reader.proofs.Theorems.{start-told}
 use Rattle.c_reader.specs.Calls.{ddsRead, readerLeft, rowsRead}
 use Rattle.c_blocks.specs.Calls.{blocksLength, readerPart, blockPart, blockOf, ddsBlocksStart, ddsBlocksRead, withBlock}
 use Rattle.c_blocks.proofs.Laws.{plain-call}
@@ -40,25 +39,14 @@ pub read-lent : (state group : List ℕ) (number n : ℕ) (rows answer : List �
 unfolding ddsRead
 read-lent state group number n rows answer = two-lent _ _ _ _ _ _ _
 
--- A start that tells 0 started.
-start-told : (size first block : ℕ) → refusalTold (startTold (blocksStartCall size first block)) ≡ 0 → blocksStartCall size first block ≡ start.Started (fresh size first)
-unfolding blocksStartCall
-start-told size first block e = by (eqb (blocksStartRefusal size first block) 0) refl e
-  where
-    by : (b : Bool) → eqb (blocksStartRefusal size first block) 0 ≡ b →
-        refusalTold (startTold (cond b (start.Started (fresh size first)) (start.Refused (blocksStartRefusal size first block)))) ≡ 0 →
-        cond b (start.Started (fresh size first)) (start.Refused (blocksStartRefusal size first block)) ≡ start.Started (fresh size first)
-    by true p z = refl
-    by false p z = absurd (eqb-false (blocksStartRefusal size first block) 0 p z)
-
 -- "a block size is chosen at start": a start returns 0 exactly where the slices are of their lengths and the profile's own
 -- start starts.
 pub blocks-start-zero : (size first block : ℕ) (state answer : List ℕ) →
     (ddsBlocksStart size first block state answer .refusal ≡ 0) ↔ ((lengthsKept (length state) blocksLength (length answer) ≡ true) × (blocksStartCall size first block ≡ start.Started (fresh size first)))
-unfolding ddsBlocksStart
+unfolding ddsBlocksStart blocksStartCall
 blocks-start-zero size first block state answer =
     let r = returns-zero _ (startTold (blocksStartCall size first block)) _ _ answer in (
-      λ e. let z = r .0 e in (z .0, start-told size first block (z .1)),
+      λ e. let z = r .0 e in (z .0, start-told (blocksStartRefusal size first block) (fresh size first) (z .1)),
       λ a. r .1 (a .0, ap (λ (x : ReaderStart). refusalTold (startTold x)) (a .1)),
     )
 

@@ -29,22 +29,21 @@ use Rattle.states.specs.States.{readerLength, readerOf, readerBytes, readerMean
 use Rattle.c_reader.specs.Calls.{ddsReaderStart, stateLeft, ddsRead, readerLeft, rowsRead}
 use Rattle.c_reader.specs.Accepted.{StartAccepted, ReadAccepted, ReadRepeated, repeatLeft, ReadRefused}
 
--- A start that tells 0 started.
-start-told : (size first : ℕ) → refusalTold (startTold (readerStartCall size first)) ≡ 0 → readerStartCall size first ≡ start.Started (fresh size first)
-unfolding readerStartCall
-start-told size first e = by (eqb (startRefusal size first) 0) refl e
+-- A start that tells 0 started, whatever number it might have refused with.
+pub start-told : (refusal : ℕ) (s : Reader) → refusalTold (startTold (cond (eqb refusal 0) (start.Started s) (start.Refused refusal))) ≡ 0 →
+    cond (eqb refusal 0) (start.Started s) (start.Refused refusal) ≡ start.Started s
+start-told refusal s e = by (eqb refusal 0) refl e
   where
-    by : (b : Bool) → eqb (startRefusal size first) 0 ≡ b → refusalTold (startTold (cond b (start.Started (fresh size first)) (start.Refused (startRefusal size first)))) ≡ 0 →
-        cond b (start.Started (fresh size first)) (start.Refused (startRefusal size first)) ≡ start.Started (fresh size first)
+    by : (b : Bool) → eqb refusal 0 ≡ b → refusalTold (startTold (cond b (start.Started s) (start.Refused refusal))) ≡ 0 → cond b (start.Started s) (start.Refused refusal) ≡ start.Started s
     by true p z = refl
-    by false p z = absurd (eqb-false (startRefusal size first) 0 p z)
+    by false p z = absurd (eqb-false refusal 0 p z)
 
 -- "Each call returns the number, 0 if accepted": a start returns 0 exactly where it is accepted.
 pub start-returns-zero : (size first : ℕ) (state answer : List ℕ) → (ddsReaderStart size first state answer .refusal ≡ 0) ↔ StartAccepted size first state answer
-unfolding ddsReaderStart
+unfolding ddsReaderStart readerStartCall
 start-returns-zero size first state answer =
     let r = returns-zero _ (startTold (readerStartCall size first)) _ _ answer in (
-      λ e. let z = r .0 e in record { kept = z .0; starts = start-told size first (z .1) },
+      λ e. let z = r .0 e in record { kept = z .0; starts = start-told (startRefusal size first) (fresh size first) (z .1) },
       λ a. r .1 (a .kept, ap (λ (x : ReaderStart). refusalTold (startTold x)) (a .starts)),
     )
 
