@@ -1,16 +1,18 @@
 // The Tape Alert flags of the AIT loader's memory: source document 001, 18.3.10, and change request 2026-11. Neither call requires
 // anything: bytes of another length are refused with a number.
+#![tactic(auto)]
+
 mod flags;
 
 ghost use Rattle.std.specs.Prelude.{◌≡◌};
 ghost use Rattle.alert.specs.Flags.{Makes, read_call};
 
 // The Tape Alert flags: the length of their bytes.
-#[derive(Drop)]
+#[derive(Clone, Copy)]
 pub struct Alert {}
 
 // What making and reading the flags answer: how many are raised, the lowest raised (0 for none), flags 1 to 32 and 33 to 64.
-#[derive(Drop)]
+#[derive(Clone, Copy)]
 pub enum AlertAnswer {
     Counted {
         raised: u32,

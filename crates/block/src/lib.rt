@@ -1,5 +1,7 @@
 // A Sub Data Block: its three Pack Items and its close behind the header, stored and judged. Source document 003, 9.4.9.2, and
 // change request 2026-01.
+#![tactic(auto)]
+
 ghost use Rattle.std.specs.Prelude.{◌≡◌, ◌+◌, ◌<◌, ◌≤◌, length};
 ghost use Rattle.numbers.specs.Store.{put};
 ghost use Rattle.block.specs.Block.{item_length, data_part_length, block_length, close_of, block_of};

@@ -1,5 +1,7 @@
 // Change request 2026-09: a profile beside the plain reader, for computers that write blocks of one size. It starts with a
 // block size, and tells where a read refuses a record of another length. All else of a read is the plain reader's.
+#![tactic(auto)]
+
 ghost use Rattle.std.specs.Prelude.{◌≡◌, true};
 ghost use Rattle.reader.specs.Answer.{read_call};
 ghost use Rattle.blocks.specs.Answer.{block_size_kept, blocks_start_call, blocks_read_call};

@@ -1,4 +1,6 @@
 // Blocks of one size from C: a start, a read, and a search.
+#![tactic(auto)]
+
 ghost use Rattle.std.specs.Prelude.{◌≡◌, [], ◌∷◌};
 ghost use Rattle.slices.specs.Call.{left};
 ghost use Rattle.c_blocks.specs.Calls.{dds_blocks_start, dds_blocks_read, find_told, dds_blocks_find};

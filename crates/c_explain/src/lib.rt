@@ -1,4 +1,6 @@
 // Why a read refuses, from C: seven numbers of eight bytes.
+#![tactic(auto)]
+
 ghost use Rattle.std.specs.Prelude.{◌≡◌, length};
 ghost use Rattle.reasons.specs.Reasons.{no_reason};
 ghost use Rattle.explain.specs.Explanation.{explanation};

@@ -1,4 +1,6 @@
 // An AIT loader's memory from C: Volume Information, the Tape Alert flags, and the search in received bytes.
+#![tactic(auto)]
+
 ghost use Rattle.std.specs.Prelude.{◌≡◌, [], ◌∷◌};
 ghost use Rattle.volume.specs.Information.{told};
 ghost use Rattle.alert.specs.Flags as flags;

@@ -1,4 +1,6 @@
 // A reader from C: its start and its read.
+#![tactic(auto)]
+
 ghost use Rattle.std.specs.Prelude.{◌≡◌, [], ◌∷◌, length};
 ghost use Rattle.reader.specs.declared.ReadAnswer.TheVariants.{Accepted};
 ghost use Rattle.reader.specs.Answer.{told};

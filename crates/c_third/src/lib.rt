@@ -1,4 +1,6 @@
 // The third code from C: making, checking, restoring and mending 46 rows. n is the row length.
+#![tactic(auto)]
+
 ghost use Rattle.std.specs.Prelude.{◌≡◌, [], ◌∷◌};
 ghost use Rattle.third.specs.Answer.{told};
 ghost use Rattle.slices.specs.Call.{left};

@@ -1,4 +1,6 @@
 // The Sub Data Blocks of a track from C: making and reading.
+#![tactic(auto)]
+
 ghost use Rattle.std.specs.Prelude.{◌≡◌, [], ◌∷◌};
 ghost use Rattle.track.specs.Answer.{told};
 ghost use Rattle.slices.specs.Call.{left};

@@ -1,4 +1,6 @@
 // A writer from C: its start, a record, a separator and the end.
+#![tactic(auto)]
+
 ghost use Rattle.std.specs.Prelude.{◌≡◌, ◌&&◌, [], ◌∷◌, length};
 ghost use Rattle.answer.specs.Answer.{if_accepted};
 ghost use Rattle.writer.specs.Calls.{told, state_of};

@@ -1,5 +1,7 @@
 // One column of the third code's buffer: its sums, what a row lacks, which row is wrong. The leaves here require what the calls
 // above have tested.
+#![tactic(auto)]
+
 ghost use Rattle.std.specs.Prelude.{◌≡◌, ◌+◌, ◌*◌, ◌≤◌, ◌<◌, ◌^◌, length};
 ghost use Rattle.field.specs.Tables.{power_table, logarithm_table};
 ghost use Rattle.column.specs.Column.{row_count, column, first_sum, second_sum, apart, lacking, wrong_row};
@@ -7,7 +9,7 @@ ghost use Rattle.column.specs.Column.{row_count, column, first_sum, second_sum, 
 use field::tables;
 
 // The rows of a column, and what stands for a row where none is wrong or no single change mends.
-#[derive(Drop)]
+#[derive(Clone, Copy)]
 pub struct Column {}
 
 impl Column {
@@ -21,7 +23,7 @@ impl Column {
 }
 
 // The sums of the two rules.
-#[derive(Drop)]
+#[derive(Clone, Copy)]
 pub struct Sums {
     pub first: u8,
     pub second: u8,

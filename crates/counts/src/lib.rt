@@ -1,5 +1,7 @@
 // The rules of an entry's count: change request 2026-02, refusals 19 to 22 in the place of 11. The leaf that the rules of an entry
 // call has a `requires`, since it adds.
+#![tactic(auto)]
+
 ghost use Rattle.std.specs.Prelude.{◌≡◌, ◌≤◌};
 ghost use Rattle.group.specs.Sizes.{longest_record};
 ghost use Rattle.counts.specs.Counts.{count_fault};

@@ -1,4 +1,6 @@
 // The exports: one line for each call from C. What each does is said and proved in the crate of its room.
+#![tactic(auto)]
+
 ghost use Rattle.std.specs.Prelude.{◌≡◌, [], ◌∷◌};
 ghost use Rattle.slices.specs.Call.{left};
 ghost use Rattle.c_reader.specs.Calls.{dds_reader_start, dds_read};

@@ -1,5 +1,7 @@
 // Change request 2026-07: why a read refuses: the rule that is broken first, where, what was found there and what is allowed. What is
 // public requires nothing.
+#![tactic(auto)]
+
 ghost use Rattle.std.specs.Prelude.{◌≡◌};
 ghost use Rattle.reader.specs.Answer.{is_repeat};
 ghost use Rattle.explain.specs.Explanation.{no_refusal, explained};
@@ -10,7 +12,7 @@ use reader::Reader;
 use reasons::Reason;
 
 // An explanation: the refusal, its place, the byte offset of that entry, and why.
-#[derive(Drop)]
+#[derive(Clone, Copy)]
 pub struct Explanation {
     pub refusal: u32,
     pub place: u32,

@@ -1,5 +1,7 @@
 // What the explainer prints of a refusal, put into a lent text, and how a run goes on after each step. What the program writes is the first
 // bytes of that text, as many as are answered. The lines of a run that ends without a refusal are the lister's own (telling).
+#![tactic(auto)]
+
 ghost use Rattle.std.specs.Prelude.{◌+◌, ◌*◌, ◌≤◌, length};
 ghost use Rattle.sections.specs.Sections.{most_groups, pair_at};
 ghost use Rattle.telling.specs.Telling.{last, longest_text, Tells};

@@ -1,5 +1,7 @@
 // The field of the third code: change request 2026-08. Multiplying by α without a table, and by α^k with both tables, which a
 // caller binds once and lends.
+#![tactic(auto)]
+
 pub mod tables;
 
 ghost use Rattle.std.specs.Prelude.{◌≡◌, ◌≤◌};

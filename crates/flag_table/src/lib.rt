@@ -1,5 +1,7 @@
 // What a flag means, by a table: document 01, "A constant table of tables maps the fourteen flag bytes to kind and warning bit". No
 // call of the library is lent it: change request 2026-04 has reading go by a flag's bits. Both say the same of every flag.
+#![tactic(auto)]
+
 ghost use Rattle.std.specs.Prelude.{◌≡◌};
 ghost use Rattle.group.specs.Flags.{meaning_of};
 ghost use Rattle.flag_table.specs.Table.{code_of, flag_table, Below};

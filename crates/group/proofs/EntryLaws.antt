@@ -90,7 +90,11 @@ entries_of_table pre (e ∷ es) post top s h =
     rw (t, ← append_assoc pre (table_bytes es) (entry_bytes e ++ post)) (entry_of_bytes (pre ++ table_bytes es) e post s.0) in
     let others : entries_below (pre ++ (table_bytes es ++ (entry_bytes e ++ post))) (top - 4) (length es) ≡ es =
     entries_of_table pre es (entry_bytes e ++ post) (top - 4) s.1 (omega arith) in
-    rw (append_assoc (table_bytes es) (entry_bytes e) post) (cc (one, others))
+    let same : pre ++ (table_bytes (e ∷ es) ++ post) ≡ pre ++ (table_bytes es ++ (entry_bytes e ++ post)) =
+    ap (λ (l : List ℕ). pre ++ l) (append_assoc (table_bytes es) (entry_bytes e) post) in
+    ap (λ (s : List ℕ). entry_at s (top - 4) ∷ entries_below s (top - 4) (length es)) same
+    ∙ ap (λ (x : Entry). x ∷ entries_below (pre ++ (table_bytes es ++ (entry_bytes e ++ post))) (top - 4) (length es)) one
+    ∙ ap (λ (l : List Entry). e ∷ l) others
 
 -- The bytes of the entry that stands somewhere are those that stand there, and its count is one that three bytes hold.
 pub bytes_of_entry : (s : List ℕ) (at : ℕ) → Bytes s → at + 4 ≤ length s → entry_bytes (entry_at s at) ≡ take 4 (drop at s)

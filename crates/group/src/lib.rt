@@ -1,11 +1,13 @@
 // The format of a Basic Group: its sizes, the kinds of entry and their flags, entries as bytes. Document 01, "Sizes" and
 // "The group". The leaves here have a `requires` where they index; the calls that firmware reaches are made of them above.
+#![tactic(auto)]
+
 pub mod entries;
 pub mod flags;
 pub mod state;
 
 // A Basic Group: the standard's size and the limits of the format.
-#[derive(Drop)]
+#[derive(Clone, Copy)]
 pub struct Group {}
 
 impl Group {
@@ -25,7 +27,7 @@ impl Group {
 }
 
 // The kinds of entry, in the order of their numbers.
-#[derive(Drop)]
+#[derive(Clone, Copy)]
 pub enum Kind {
     Total,
     Separator,
@@ -37,21 +39,21 @@ pub enum Kind {
 }
 
 // What a flag byte means: a kind and its bit b4, or nothing.
-#[derive(Drop)]
+#[derive(Clone, Copy)]
 pub enum Meaning {
     Known(Kind, bool),
     Unknown,
 }
 
 // An entry as it stands in a group.
-#[derive(Drop)]
+#[derive(Clone, Copy)]
 pub struct Entry {
     pub flag: u8,
     pub count: u32,
 }
 
 // Where a group leaves the run: between records, inside one, or with a total owed.
-#[derive(Drop)]
+#[derive(Clone, Copy)]
 pub enum Phase {
     Free,
     Inside,

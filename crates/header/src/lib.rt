@@ -1,5 +1,7 @@
 // The header of a Sub Data Block: SW1, SW2 and their parity, made and taken apart by shifts and masks. Source document 003,
 // 9.4.9.1.
+#![tactic(auto)]
+
 ghost use Rattle.std.specs.Prelude.{◌≡◌, ◌+◌, ◌<◌, ◌≤◌, length};
 ghost use Rattle.numbers.specs.Store.{put};
 ghost use Rattle.header.specs.Header.{header_length, even, tape_area, area_kept, sw1_of, sw2_of, header_of, pack_of, pack_kept, sw1_kept, sw2_kept};

@@ -1,4 +1,6 @@
 // The Item number of each place of a track, by Table 3: source document 003, 9.4.9.4.
+#![tactic(auto)]
+
 ghost use Rattle.std.specs.Prelude.{◌≡◌, ◌≤◌, length};
 ghost use Rattle.items.specs.Items.{numbers_length, contents, row_of, numbers_of};
 

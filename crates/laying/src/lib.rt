@@ -1,5 +1,7 @@
 // The state of a writer with its start, the room that its group has left, and what is laid in it: document 01, "Writing". When
 // a state is sound, and what a call answers, the crates above say.
+#![tactic(auto)]
+
 pub mod lay;
 pub mod room;
 
@@ -10,7 +12,7 @@ use group::Phase;
 
 // A writer's state. The two fields that are one byte wide stand together: a struct is copied in words, and a word that is part
 // byte, part padding makes the processor wait.
-#[derive(Drop)]
+#[derive(Clone, Copy)]
 pub struct Writer {
     pub size: u32,
     pub next: u32,
@@ -23,7 +25,7 @@ pub struct Writer {
 }
 
 // A start's answer: the state, or the number of the refusal.
-#[derive(Drop)]
+#[derive(Clone, Copy)]
 pub enum WriterStart {
     Started(Writer),
     Refused(u32),
@@ -52,7 +54,7 @@ impl Writer {
 }
 
 // How a record goes into the room of a free writer: whole, as a start of so many bytes, or not at all.
-#[derive(Drop)]
+#[derive(Clone, Copy)]
 pub enum Fit {
     Entire,
     Start(u32),

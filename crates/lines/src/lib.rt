@@ -1,5 +1,7 @@
 // The lines that are printed, added to a text one after the other. Each function answers where what it added ends, and has a
 // `requires` for the room that it needs at most.
+#![tactic(auto)]
+
 ghost use Rattle.std.specs.Prelude.{◌+◌, ◌*◌, ◌≤◌, length};
 ghost use Rattle.words.specs.Added.{Added};
 ghost use Rattle.lines.specs.Text.{ending, group_line, row_line, row_lines, group_lines, repeat_line, refusal_line, end_line, bad_line};

@@ -2,22 +2,22 @@
 -- Assumes nothing.
 use Rattle.numbers.specs.Numbers.{between}
 use mathlib.Core.Path.{◌≡◌, refl, sym, ◌∙◌}
-use mathlib.Core.Bool.{Bool, true, false, not, cond, ◌&&◌}
+use mathlib.Core.Bool.{Bool, true, false, cond, ◌&&◌}
 use Prim.Native.Nat.{ℕ, suc, ◌≤◌}
 use native.Mathlib.Omega.{arith}
 use lib.Dec.{leb}
 use borrow.Author.Rules.{rules}
-use borrow.Author.Tests.{not-true, not-false, leb-true, le-ltb, lt-ltb, le-leb, lt-leb, eq-eqb, ne_eqb}
+use borrow.Author.Tests.{leb-true, le-ltb, lt-ltb, le-leb, lt-leb, eq-eqb, ne_eqb}
 
 -- What `search` closes a return by, where the tests on the way decide the tests of a definition.
 pub ruleset tests = (le-leb, lt-leb, lt-ltb, le-ltb, eq-eqb, ne_eqb, rules)
 
 -- What the test `!f(x)` tells of f's definition, where it was taken and where it was left.
-pub fails : {r b : Bool} → r ≡ b → not r ≡ true → b ≡ false
-fails {r} e h = sym e ∙ not-true r h
+pub fails : {r b : Bool} → r ≡ b → r ≡ false → b ≡ false
+fails e h = sym e ∙ h
 
-pub holds : {r b : Bool} → r ≡ b → not r ≡ false → b ≡ true
-holds {r} e h = sym e ∙ not-false r h
+pub holds : {r b : Bool} → r ≡ b → r ≡ true → b ≡ true
+holds e h = sym e ∙ h
 
 -- Both halves of an `&&`, and the `&&` of both.
 pub both : (a b : Bool) → a && b ≡ true → (a ≡ true) × (b ≡ true)

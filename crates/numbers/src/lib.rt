@@ -1,5 +1,7 @@
 // Numbers in lent bytes, most significant byte first, and stores of many bytes. The leaves here have a `requires` where they
 // index; the calls that firmware reaches are made of them above.
+#![tactic(auto)]
+
 pub mod bytes;
 
 ghost use Rattle.std.specs.Prelude.{◌≡◌, [], ◌∷◌, ◌+◌, ◌*◌, ◌≤◌, length};

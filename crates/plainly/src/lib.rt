@@ -1,6 +1,8 @@
 // The scan of a group's table with nothing but the rules, for what is in no haste: an explanation, and a group with a block of
 // another length. The quick scan has one caller, the read, so that the compiler builds it into that one. The leaf has a
 // `requires`, on a group that was refused nothing before its scan.
+#![tactic(auto)]
+
 ghost use Rattle.std.specs.Prelude.{◌≡◌, ◌-◌};
 ghost use Rattle.group.specs.Sizes.{information_length, entry_offset};
 ghost use Rattle.group.specs.Entries.{entries_below};

@@ -1,5 +1,7 @@
 // The two programs that read a run file, and what each tells at a step of a run: the lister prints what each group holds, the explainer
 // why a run is refused.
+#![tactic(auto)]
+
 ghost use Rattle.std.specs.Prelude.{◌+◌, ◌*◌, ◌≤◌, length};
 ghost use Rattle.sections.specs.Sections.{most_groups, pair_at};
 ghost use Rattle.telling.specs.Telling.{longest_text, Tells};
@@ -8,7 +10,7 @@ ghost use Rattle.programs.specs.Steps.{start_of, group_of};
 use reader::Reader;
 use telling::Said;
 
-#[derive(Drop)]
+#[derive(Clone, Copy)]
 pub enum Program {
     Lister,
     Explainer,

@@ -1,16 +1,18 @@
 // Where a message begins in the bytes that an AIT loader receives: source document 001, 18.7 and 18.8, and change request 2026-11.
 // The call requires nothing: what has too many places for a number is refused.
+#![tactic(auto)]
+
 mod search;
 
 ghost use Rattle.std.specs.Prelude.{◌≡◌};
 ghost use Rattle.radio.specs.Search.{find_call};
 
 // Bytes received by radio.
-#[derive(Drop)]
+#[derive(Clone, Copy)]
 pub struct Radio {}
 
 // What a search answers: the place of the pattern's first byte and of the length byte behind it.
-#[derive(Drop)]
+#[derive(Clone, Copy)]
 pub enum RadioAnswer {
     Found { place: u32, length_at: u32 },
     Nothing,

@@ -1,5 +1,7 @@
 // Reads Basic Groups: document 01, "Reading". A start, a read with its rows, and a read's judgement without them. None of them
 // requires anything: what may not be is refused with a number and a place.
+#![tactic(auto)]
+
 pub mod ends;
 
 ghost use Rattle.std.specs.Prelude.{◌≡◌, ◌/◌, length};
@@ -10,7 +12,7 @@ use entry::ScanEnd;
 use group::{Group, Phase};
 
 // A reader's state between groups. The three fields that are one byte wide stand together.
-#[derive(Drop)]
+#[derive(Clone, Copy)]
 pub struct Reader {
     pub size: u32,
     pub next: u32,
@@ -20,14 +22,14 @@ pub struct Reader {
     pub sum: u32,
 }
 
-#[derive(Drop)]
+#[derive(Clone, Copy)]
 pub enum ReaderStart {
     Started(Reader),
     Refused(u32),
 }
 
 // The state stands first in each case, so that it lies at one place whichever it is.
-#[derive(Drop)]
+#[derive(Clone, Copy)]
 pub enum ReadAnswer {
     Accepted(Reader),
     Repeated(Reader),

@@ -1,5 +1,7 @@
 // The lines of a refusal, added to a text one after the other. Each function answers where what it added ends, and has a `requires` for
 // the room that it needs at most.
+#![tactic(auto)]
+
 ghost use Rattle.std.specs.Prelude.{◌+◌, ◌≤◌, ◌≡◌, cond, [], ◌++◌, eqb, length};
 ghost use Rattle.words.specs.Added.{Added};
 ghost use Rattle.words.specs.Words.{ascii, kind_name};

@@ -1,11 +1,12 @@
 // Change request 2026-07: the numbers of a reason. What they are for each refusal of reading, and that they are true, is said and proved
 // here; how they are found stands above, in the crate finding.
+#![tactic(auto)]
 
 ghost use Rattle.std.specs.Prelude.{◌≡◌};
 ghost use Rattle.reasons.specs.Reasons.{reason, no_reason};
 
 // The numbers of a reason: what was found, the least and the greatest allowed, and the permitted kinds.
-#[derive(Drop)]
+#[derive(Clone, Copy)]
 pub struct Reason {
     pub found: u64,
     pub least: u64,

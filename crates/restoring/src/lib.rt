@@ -1,5 +1,7 @@
 // The whole buffer of the third code, column by column: which column fails a rule, rows restored, columns mended. The leaves here
 // require what the calls above have tested: 46 rows of length n, and rows that are there.
+#![tactic(auto)]
+
 ghost use Rattle.std.specs.Prelude.{◌≡◌, ◌+◌, ◌*◌, ◌≤◌, ◌<◌, length, set};
 ghost use Rattle.field.specs.Tables.{power_table, logarithm_table};
 ghost use Rattle.column.specs.Column.{row_count, column, lawful, restored_one, apart, restored_two, none_mends, wrong_in, mended, mendable};

@@ -1,5 +1,7 @@
 // The rows of a group whose scan has passed: document 01, "Reading". As numbers here, as bytes in `bytes`. The leaves here have a
 // `requires`, on a group that the scan above has passed and on the rows' length.
+#![tactic(auto)]
+
 pub mod bytes;
 
 ghost use Rattle.std.specs.Prelude.{◌≡◌, ◌*◌, ◌-◌, ◌≤◌, length};

@@ -1,6 +1,8 @@
 // A run file read from standard input, step by step: what each step needs is read, what the program tells of it is written, until one stops
 // the run. After a refusal no more is read. After the last image one byte is asked for, which must not be there. Both programs are this,
 // and differ in what they tell.
+#![tactic(auto)]
+
 pub mod input;
 pub mod output;
 

@@ -1,5 +1,7 @@
 // The scan of a group's table, entry by entry from 1: the loop over its entries, and a quick path for those that all but a few
 // are (singles). What a scan gives is said in the crate entry.
+#![tactic(auto)]
+
 mod singles;
 
 ghost use Rattle.std.specs.Prelude.{◌≡◌, ◌-◌};

@@ -14,7 +14,7 @@ use entry::{Cursor, Stand, rules};
 use group::{Group, Kind};
 
 // How far a stretch of such entries led: how many entries are left, the sum of parts and the data offset reached.
-#[derive(Drop)]
+#[derive(Clone, Copy)]
 pub struct Stretch {
     pub left: u32,
     pub sum: u32,

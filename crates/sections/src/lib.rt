@@ -1,5 +1,7 @@
 // The sections of a run before its images: what the bytes read so far are, and the pairs among them. A section is judged as
 // soon as its bytes are there, so that the program reads no further than a run file that is bad.
+#![tactic(auto)]
+
 ghost use Rattle.std.specs.Prelude.{◌≡◌, ◌+◌, ◌*◌, ◌≤◌, length, true};
 ghost use Rattle.numbers.specs.Numbers.{between};
 ghost use Rattle.group.specs.Sizes.{least_size};
@@ -14,7 +16,7 @@ const LARGEST_SIZE: u32 = 4096;
 const MOST_GROUPS: u32 = 1024;
 
 // What the bytes read so far are.
-#[derive(Drop)]
+#[derive(Clone, Copy)]
 pub enum Sections {
     // In range, and short of the section that ends at this byte.
     Next(usize),
@@ -25,7 +27,7 @@ pub enum Sections {
 }
 
 // One pair of the second section.
-#[derive(Drop)]
+#[derive(Clone, Copy)]
 pub struct Pair {
     pub number: u32,
     pub entries: u32,

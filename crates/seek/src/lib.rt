@@ -1,10 +1,12 @@
 // Change request 2026-09: where a block begins among a group's rows, twelve bytes each. Blocks are counted by the rows alone,
 // so any bytes will do.
+#![tactic(auto)]
+
 ghost use Rattle.std.specs.Prelude.{◌≡◌, ◌/◌, length};
 ghost use Rattle.seek.specs.Find.{begins, beginning, find_call};
 
 // Where a block begins: at this offset of the group, or not in it.
-#[derive(Drop)]
+#[derive(Clone, Copy)]
 pub enum Beginning {
     At(u32),
     Elsewhere,

@@ -1,5 +1,7 @@
 // What every call from C does with its slices: the lengths that it tests before all else, and what it tells in its answer slice,
 // each number four bytes, most significant first.
+#![tactic(auto)]
+
 ghost use Rattle.std.specs.Prelude.{◌≡◌, [], ◌∷◌, length};
 ghost use Rattle.numbers.specs.Numbers.{in_bytes};
 ghost use Rattle.slices.specs.Call.{answer_length, lengths_kept, Tells};

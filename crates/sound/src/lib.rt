@@ -1,5 +1,7 @@
 // When a writer's state is sound, and what each call refuses: the tests of document 01, in its order. Any state may come in;
 // a refusal is its number, and 0 is none.
+#![tactic(auto)]
+
 ghost use Rattle.std.specs.Prelude.{◌≡◌};
 ghost use Rattle.sound.specs.State.{is_free, is_inside, is_owed, is_empty, ends_empty};
 ghost use Rattle.sound.specs.State.{room_kept, empty_kept, rest_kept, data_kept, spent_kept, writer_sound};

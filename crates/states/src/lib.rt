@@ -1,5 +1,7 @@
 // States from lent slices: each number four bytes, most significant first. The leaves here have a `requires` on a slice's length,
 // which the calls above have tested.
+#![tactic(auto)]
+
 ghost use Rattle.std.specs.Prelude.{◌≡◌, ◌&&◌, ◌≤◌, length};
 ghost use Rattle.numbers.specs.Numbers.{field};
 ghost use Rattle.states.specs.States.{run_length, reader_length, writer_length, phase_of, phase_meant, b4_meant};
@@ -10,7 +12,7 @@ use laying::Writer;
 use reader::Reader;
 
 // The four numbers that both states begin with.
-#[derive(Drop)]
+#[derive(Clone, Copy)]
 pub struct Run {
     pub size: u32,
     pub next: u32,

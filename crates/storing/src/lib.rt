@@ -1,5 +1,7 @@
 // States into lent slices: each number four bytes, most significant first. The leaves here have a `requires` on a slice's length,
 // which the calls above have tested.
+#![tactic(auto)]
+
 ghost use Rattle.std.specs.Prelude.{◌≡◌, ◌∷◌, ℕ, ◌+◌, ◌*◌, ◌≤◌, length, replicate};
 ghost use Rattle.numbers.specs.Store.{put};
 ghost use Rattle.numbers.specs.Numbers.{bytes_of, in_bytes};

@@ -1,5 +1,7 @@
 // What is printed at each step of a run, put into a lent text, and how the run goes on after it. What the program writes is
 // the first bytes of that text, as many as are answered.
+#![tactic(auto)]
+
 ghost use Rattle.std.specs.Prelude.{◌+◌, ◌*◌, ◌≤◌, length};
 ghost use Rattle.sections.specs.Sections.{pair_at};
 ghost use Rattle.telling.specs.Telling.{bad_step, start_step, read_step, group_step, end_step, last, longest_text, Tells};
@@ -11,14 +13,14 @@ use reader::{ReadAnswer, Reader, ReaderStart};
 const ROW_NUMBERS: usize = 3048;
 
 // How the run goes on once a step's text is printed: with this state, or not at all.
-#[derive(Drop)]
+#[derive(Clone, Copy)]
 pub enum Listed {
     On(Reader),
     Stopped,
 }
 
 // How many bytes of the text a step has, and how the run goes on.
-#[derive(Drop)]
+#[derive(Clone, Copy)]
 pub struct Said {
     pub length: usize,
     pub then: Listed,

@@ -1,5 +1,7 @@
 // The optional third code over 46 rows of equal length in one lent buffer: source document 003, 14.5.3, and change request
 // 2026-08. No call requires anything: what may not be is refused with a number and a place, and the buffer then stays.
+#![tactic(auto)]
+
 mod refusals;
 
 ghost use Rattle.third.specs.Answer.{Makes, Checks, RestoresOne, RestoresTwo, Mends};
@@ -8,12 +10,12 @@ use column::Column;
 use field::tables;
 
 // 46 rows: 44 of data, then the two of check bytes. In every call n is the row length.
-#[derive(Drop)]
+#[derive(Clone, Copy)]
 pub struct ThirdCode {}
 
 // What the calls answer. The outcome is 1 where a check finds a column that breaks a rule, and 0 otherwise; the place is the
 // column of refusal 43, and 0 otherwise.
-#[derive(Drop)]
+#[derive(Clone, Copy)]
 pub enum ThirdAnswer {
     Accepted { outcome: u32 },
     Refused { refusal: u32, place: u32 },

@@ -1,16 +1,18 @@
 // Makes and reads the 16 Sub Data Blocks of a track: source document 003, 9.4.9, and change request 2026-01. Both calls work
 // on lent byte slices. Neither requires anything: what may not be is refused, with the block where it stands.
+#![tactic(auto)]
+
 mod blocks;
 mod filling;
 
 ghost use Rattle.track.specs.Answer.{Makes, Reads};
 
 // A track: its blocks, and the lengths of what is lent for it.
-#[derive(Drop)]
+#[derive(Clone, Copy)]
 pub struct Track {}
 
 // What making and reading answer.
-#[derive(Drop)]
+#[derive(Clone, Copy)]
 pub enum TrackAnswer {
     Accepted,
     Refused { refusal: u32, place: u32 },

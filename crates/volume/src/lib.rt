@@ -1,15 +1,17 @@
 // Volume Information of the AIT loader's memory: source document 001, 16.4.2.2, and change request 2026-11. Neither call requires
 // anything: what may not be is refused with a number.
+#![tactic(auto)]
+
 mod information;
 
 ghost use Rattle.volume.specs.Information.{Makes, Reads};
 
 // Volume Information: its length, the length of its fields, and where they begin and end in it.
-#[derive(Drop)]
+#[derive(Clone, Copy)]
 pub struct Volume {}
 
 // What making and reading Volume Information answer: the tape's type by its thickness.
-#[derive(Drop)]
+#[derive(Clone, Copy)]
 pub enum VolumeAnswer {
     TypeA,
     TypeB,

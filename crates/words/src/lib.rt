@@ -1,5 +1,7 @@
 // What lines are made of, added to a text. Each function answers where what it added ends, and has a `requires` for the room that
 // it needs at most.
+#![tactic(auto)]
+
 ghost use Rattle.std.specs.Prelude.{◌+◌, ◌≤◌, ◌≡◌, [], ◌∷◌, length};
 ghost use Rattle.words.specs.Added.{Added};
 ghost use Rattle.words.specs.Names.{names_below};

@@ -1,5 +1,7 @@
 // Writes Basic Groups: document 01, "Writing". A state goes in by value and comes back in the answer; the group's buffer is
 // lent. Every input is answered.
+#![tactic(auto)]
+
 mod calls;
 
 ghost use Rattle.laying.specs.Laying.{desk};
@@ -8,7 +10,7 @@ ghost use Rattle.writer.specs.Calls.{Meets, record_call, separator_call, end_cal
 use laying::{Writer, lay};
 
 // A call's answer. The state stands first in each case, so that it lies at one place whichever it is.
-#[derive(Drop)]
+#[derive(Clone, Copy)]
 pub enum WriteAnswer {
     Finished(Writer),
     Closed {

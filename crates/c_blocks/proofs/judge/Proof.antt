@@ -15,7 +15,7 @@ use Rattle.c_blocks.proofs.judge.Tie as tie
 
 -- The slices are of their lengths.
 kept : (c : tie.Else1) → lengths_kept (length c.before.before.before.before.before.before.args.state.now) blocks_length (length c.before.before.before.before.before.before.args.answer.now) ≡ true
-kept c = holds c.before.lengths_kept_lem.ensures c.if1.false
+kept c = holds c.before.lengths_kept.ensures c.if1.false
 
 long : (c : tie.Else1) → (length c.before.before.before.before.before.before.args.state.now ≡ blocks_length) × (length c.before.before.before.before.before.before.args.answer.now ≡ answer_length)
 long c = lengths _ _ _ (kept c)
@@ -58,7 +58,7 @@ judge_spec =
     tie.close
     (tie.spec
     (λ c κs. search rules)
-    (λ c. laws.by_length _ _ _ _ _ _ (fails c.before.lengths_kept_lem.ensures c.if1.true))
+    (λ c. laws.by_length _ _ _ _ _ _ (fails c.before.lengths_kept.ensures c.if1.true))
     (λ c. search rules)
     (λ c. search rules)
     (λ c. omega (arith, (long c).0))

@@ -18,14 +18,14 @@ use Rattle.c_reader.proofs.read_whole.Tie as tie
 
 -- The slices are of their lengths.
 kept : (c : tie.Else1) → lengths_kept (length c.before.before.before.before.before.before.args.state.now) reader_length (length c.before.before.before.before.before.before.args.answer.now) ≡ true
-kept c = holds c.before.lengths_kept_lem.ensures c.if1.false
+kept c = holds c.before.lengths_kept.ensures c.if1.false
 
 long : (c : tie.Else1) → (length c.before.before.before.before.before.before.args.state.now ≡ reader_length) × (length c.before.before.before.before.before.before.args.answer.now ≡ answer_length)
 long c = lengths _ _ _ (kept c)
 
 by_length : tie.Need-returns
 unfolding dds_read
-by_length c = stopped _ _ _ _ (fails c.before.lengths_kept_lem.ensures c.if1.true)
+by_length c = stopped _ _ _ _ (fails c.before.lengths_kept.ensures c.if1.true)
 
 by-meaning : tie.Need-returns-2
 by-meaning c =

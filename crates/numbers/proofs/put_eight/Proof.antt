@@ -9,7 +9,7 @@ returns c =
     let b = c.before.before in
     let a = b.before.before.before.before in
     let s = a.before.before.before in
-    rw (b.put-number2.ensures, a.put-number.ensures) (put_halves s.args.bytes.now s.args.at s.args.n)
+    rw (b.put_number-2.ensures, a.put_number.ensures) (put_halves s.args.bytes.now s.args.at s.args.n)
 
 pub put_eight_spec : {M : Type 1} → statement M
 put_eight_spec =

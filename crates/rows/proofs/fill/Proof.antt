@@ -49,7 +49,7 @@ loop-again c =
     let t = c.before.before.before.loop-test.true in
     let x = c.before.before.entry_at in (
       simp length-set (onto l.invariant.0 t),
-      filled_turn form 3 _ _ _ _ l.rows _ l.top l.left l.reached l.i x.result _ _ t x.ensures.0 (row_kind_lem _ _ (reach c.before.before).1 c.before.number_by_bits_lem.ensures) c.reached-by.ensures (simp length-set) (λ more. three l.rows l.i _ _ _ more) l.invariant.1,
+      filled_turn form 3 _ _ _ _ l.rows _ l.top l.left l.reached l.i x.result _ _ t x.ensures.0 (row_kind_lem _ _ (reach c.before.before).1 c.before.number_by_bits.ensures) c.reached-by.ensures (simp length-set) (λ more. three l.rows l.i _ _ _ more) l.invariant.1,
     )
 
 pub fill_spec : {M : Type 1} → statement M

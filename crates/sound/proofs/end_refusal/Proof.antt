@@ -11,7 +11,7 @@ length_met : (c : tie.Else2) → LengthMet c.before.before.before.before.args.w 
 length_met c = (holds c.before.before.before.is_sound.ensures c.before.before.if1.false, c.if2.false)
 
 shut_met : (c : tie.Else3) → ShutMet c.before.before.before.before.before.before.args.w c.before.before.before.before.before.before.args.len
-shut_met c = (length_met c.before.before, sym c.before.is_inside_lem.ensures ∙ c.if3.false)
+shut_met c = (length_met c.before.before, sym c.before.is_inside.ensures ∙ c.if3.false)
 
 pub end_refusal_spec : {M : Type 1} → statement M
 end_refusal_spec =
@@ -22,7 +22,7 @@ end_refusal_spec =
     (λ c. search rules)
     (λ c. end_length _ _ (holds c.before.before.before.is_sound.ensures c.before.before.if1.false) c.if2.true)
     (λ c κs. search rules)
-    (λ c. end_open _ _ (length_met c.before.before) (sym c.before.is_inside_lem.ensures ∙ c.if3.true))
+    (λ c. end_open _ _ (length_met c.before.before) (sym c.before.is_inside.ensures ∙ c.if3.true))
     (λ c κs. search rules)
     (λ c. end_unowed _ _ (shut_met c.before.before) (fails c.before.is-owed.ensures c.if4.true))
     (λ c. end_spent _ _ (shut_met c.before.before.before.before) (holds c.before.before.before.is-owed.ensures c.before.before.if4.false) c.if5.true)

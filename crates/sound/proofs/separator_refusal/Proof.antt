@@ -15,7 +15,7 @@ remains_met : (c : tie.Else3) → RemainsMet c.before.before.before.before.befor
 remains_met c = (length_met c.before.before, c.if3.false)
 
 none_open_met : (c : tie.Else4) → NoneOpenMet c.before.before.before.before.before.before.before.before.args.w c.before.before.before.before.before.before.before.before.args.len
-none_open_met c = (remains_met c.before.before, sym c.before.is_inside_lem.ensures ∙ c.if4.false)
+none_open_met c = (remains_met c.before.before, sym c.before.is_inside.ensures ∙ c.if4.false)
 
 pub separator_refusal_spec : {M : Type 1} → statement M
 separator_refusal_spec =
@@ -27,6 +27,6 @@ separator_refusal_spec =
     (λ c. separator_length _ _ _ (holds c.before.before.before.is_sound.ensures c.before.before.if1.false) c.if2.true)
     (λ c. separator_spent _ _ _ (length_met c.before.before) c.if3.true)
     (λ c κs. search rules)
-    (λ c. separator_open _ _ _ (remains_met c.before.before) (sym c.before.is_inside_lem.ensures ∙ c.if4.true))
+    (λ c. separator_open _ _ _ (remains_met c.before.before) (sym c.before.is_inside.ensures ∙ c.if4.true))
     (λ c. separator_value_lem _ _ _ (none_open_met c.before) c.if5.true)
     (λ c. separator_right _ _ _ (none_open_met c.before) c.if5.false))

@@ -20,7 +20,7 @@ none c = sym c.before.end-refusal.ensures ∙ c.if1.false
 known : (c : tie.Else2) → Accepted c.before.before.before.before.before.args.given c.before.before.before.before.before.args.group.now
 known c =
     let e = end_accepted_lem c.before.before.before.before.before.args.given c.before.before.before.before.before.args.group.now (none c.before.before) in
-    record { sound = e.sound; long = e.long; next = e.next (sym c.before.ends_empty_lem.ensures ∙ c.if2.false) }
+    record { sound = e.sound; long = e.long; next = e.next (sym c.before.ends_empty.ensures ∙ c.if2.false) }
 
 refused : tie.Need-returns
 refused c =
@@ -31,7 +31,7 @@ empty : tie.Need-returns-2
 unfolding finished
 empty c =
     let a = c.before.before.before.before.before.args in
-    end_nothing a.warn (desk a.given a.group.now) (none c.before.before) (sym c.before.ends_empty_lem.ensures ∙ c.if2.true)
+    end_nothing a.warn (desk a.given a.group.now) (none c.before.before) (sym c.before.ends_empty.ensures ∙ c.if2.true)
 
 close-requires : tie.Need-close-requires
 close-requires c κs = omega (arith, known c.before.before.before.before.before, c.before.before.before.ready.ensures.1.0)
@@ -41,7 +41,7 @@ shut c =
     let r = c.before.before.before.before.before.before in
     let e = r.before.before in
     let a = e.before.before.before.before.before.args in
-    end_closes a.warn (desk a.given a.group.now) (none e.before.before) (sym e.before.ends_empty_lem.ensures ∙ e.if2.false)
+    end_closes a.warn (desk a.given a.group.now) (none e.before.before) (sym e.before.ends_empty.ensures ∙ e.if2.false)
     r.ready.ensures.0 c.before.before.close.ensures
 
 pub end_spec : {M : Type 1} → statement M

@@ -24,7 +24,7 @@ refused c =
 
 inside-requires : tie.Need-record-inside-requires
 inside-requires c κs =
-    let p = is_inside_lem c.before.before.before.before.before.before.before.before.before.before.before.args.given.phase (sym c.before.before.is_inside_lem.ensures ∙ c.before.if2.true) in
+    let p = is_inside_lem c.before.before.before.before.before.before.before.before.before.before.before.args.given.phase (sym c.before.before.is_inside.ensures ∙ c.before.if2.true) in
     let r = c.before.before.before.before.before.ready.ensures in
     (r.1.0.0, opened (known c.before.before.before.before.before.before.before) p (r.1.1 p).0 (r.1.1 p).1)
 
@@ -36,16 +36,16 @@ by-inside c =
     let r = c.before.before.before.before.before.before.before.before in
     let a = r.before.before.before.before.before.before.args in
     record_open a.«data».now a.warn (desk a.given a.group.now) (none r.before.before)
-    (sym c.before.before.before.before.before.is_inside_lem.ensures ∙ c.before.before.before.before.if2.true)
-    r.ready.ensures.0 c.before.before.record_inside_lem.ensures
+    (sym c.before.before.before.before.before.is_inside.ensures ∙ c.before.before.before.before.if2.true)
+    r.ready.ensures.0 c.before.before.record_inside.ensures
 
 by-free : tie.Need-returns-3
 by-free c =
     let r = c.before.before.before.before.before.before.before.before in
     let a = r.before.before.before.before.before.before.args in
     record_begins a.«data».now a.warn (desk a.given a.group.now) (none r.before.before)
-    (sym c.before.before.before.before.before.is_inside_lem.ensures ∙ c.before.before.before.before.if2.false)
-    r.ready.ensures.0 c.before.before.record_free_lem.ensures
+    (sym c.before.before.before.before.before.is_inside.ensures ∙ c.before.before.before.before.if2.false)
+    r.ready.ensures.0 c.before.before.record_free.ensures
 
 pub record_spec : {M : Type 1} → statement M
 record_spec =

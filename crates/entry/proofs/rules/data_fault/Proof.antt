@@ -14,7 +14,7 @@ fits : (c : tie.Else1) → room_kept c.before.before.args.kind c.before.before.a
 fits c = rw (← c.before.reached-after.ensures) (le-leb _ _ c.if1.false)
 
 skips : (c : tie.Else2) → is_skip c.before.before.before.before.args.kind ≡ true
-skips c = holds c.before.is_skip_lem.ensures c.if2.false
+skips c = holds c.before.is_skip.ensures c.if2.false
 
 pub data_fault_spec : {M : Type 1} → statement M
 data_fault_spec =
@@ -23,7 +23,7 @@ data_fault_spec =
     (λ c κs. search rules)
     (λ c. rw (← c.before.reached-after.ensures, lt-leb _ _ c.if1.true))
     (λ c κs. search rules)
-    (λ c. rw (← c.before.before.before.reached-after.ensures, le-leb _ _ c.before.before.if1.false, fails c.before.is_skip_lem.ensures c.if2.true))
+    (λ c. rw (← c.before.before.before.reached-after.ensures, le-leb _ _ c.before.before.if1.false, fails c.before.is_skip.ensures c.if2.true))
     (λ c. search rules)
     (λ c.
     let a = c.before.before.before.before.before.args in

@@ -13,6 +13,6 @@ follow_kept_spec =
     (λ c κs. c.requires)
     (λ c. rw (fails c.before.may-follow.ensures c.if1.true))
     (λ c κs. search rules)
-    (λ c. rw (holds c.before.before.before.may-follow.ensures c.before.before.if1.false, c.before.if2.true) c.is_skip_lem.ensures)
+    (λ c. rw (holds c.before.before.before.may-follow.ensures c.before.before.if1.false, c.before.if2.true) c.is_skip.ensures)
     (λ c κs. search rules)
     (λ c. rw (holds c.before.before.before.may-follow.ensures c.before.before.if1.false, c.before.if2.false) (ap not c.is-skip2.ensures)))

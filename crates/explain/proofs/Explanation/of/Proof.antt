@@ -28,13 +28,13 @@ of_spec =
     (tie.spec
     (λ c κs. search rules)
     (λ c κs. search rules)
-    (λ c. c.none.ensures ∙ told_repeat _ _ _ _ _ (sym c.before.before.is_repeat_lem.ensures ∙ c.before.if1.true))
+    (λ c. c.none.ensures ∙ told_repeat _ _ _ _ _ (sym c.before.before.is_repeat.ensures ∙ c.before.if1.true))
     (λ c κs. search rules)
     (λ c κs. search rules)
     (λ c.
     let r = c.before.before in
     let n = r.before in
-    told_before _ _ _ _ _ _ _ r.refusal.ensures c.before.if2.true (sym n.before.is_repeat_lem.ensures ∙ n.if1.false) c.call-reason.ensures)
+    told_before _ _ _ _ _ _ _ r.refusal.ensures c.before.if2.true (sym n.before.is_repeat.ensures ∙ n.if1.false) c.call-reason.ensures)
     (λ c κs. search rules)
     (λ c κs. let r = open_to c.before in (cut r, rw c.opening.ensures (begins r)))
     (λ c. search rules)

@@ -6,4 +6,4 @@ use Rattle.group.proofs.entries.entry_at.Statement.{statement}
 use Rattle.group.proofs.entries.entry_at.Tie as tie
 
 pub entry_at_spec : {M : Type 1} → statement M
-entry_at_spec = tie.close (tie.spec (λ c κs. search rules) (λ c. search rules) (λ c. (word_apart _ _ c.entry_word.ensures, omega arith)))
+entry_at_spec = tie.close (tie.spec (λ c κs. search rules) (λ c. search rules) (λ c. (word_apart _ _ c.entry_word-word.ensures, omega arith)))

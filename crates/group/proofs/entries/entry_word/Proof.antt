@@ -9,7 +9,7 @@ use Rattle.group.proofs.entries.entry_word.Tie as tie
 returns : tie.Need-returns
 returns c =
     let a = c.before.before.before.before.before.before.args in
-    let byte = c.before.shared-slice-known5.given in
+    let byte = c.before.shared_slice_known-5-1.given in
     entry_word a.group.now a.at c.joined.result (omega (arith, byte (a.at + 1))) (omega (arith, byte (a.at + 2))) (omega (arith, byte (a.at + 3))) c.joined.ensures
 
 pub entry_word_spec : {M : Type 1} → statement M

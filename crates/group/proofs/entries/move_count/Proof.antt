@@ -12,7 +12,7 @@ use Rattle.group.proofs.EntryLaws.{count_bytes}
 use Rattle.group.proofs.entries.move_count.Statement.{statement}
 use Rattle.group.proofs.entries.move_count.Tie as tie
 
-counted : (c : tie.After-entry-word) → c.entry_word.result - c.before.before.before.before.before.before.before.before.before.before.before.args.flag * 16777216 ≡ (entry_at c.before.before.before.before.before.before.before.before.before.before.before.args.group.now c.before.before.before.before.before.before.before.before.before.before.before.args.from).count
+counted : (c : tie.After-entry_word) → c.entry_word.result - c.before.before.before.before.before.before.before.before.before.before.before.args.flag * 16777216 ≡ (entry_at c.before.before.before.before.before.before.before.before.before.before.before.args.group.now c.before.before.before.before.before.before.before.before.before.before.before.args.from).count
 counted c =
     let w = c.entry_word.ensures in
     let p = c.before.before.before.before.before.before.before.before.before.before.before.requires in
@@ -21,7 +21,7 @@ counted c =
 returns : tie.Need-returns
 returns c =
     let a = c.before.before.before.before.before.before.before.before.before.before.before.args in
-    let byte = c.before.before.before.before.shared-slice-known5.given in
+    let byte = c.before.before.before.before.shared_slice_known-5-1.given in
     let w = c.entry_word.ensures in
     let e = counted c in (
       (e, omega (arith, w.small, e)),

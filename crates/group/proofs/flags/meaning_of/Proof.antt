@@ -6,13 +6,13 @@ use Rattle.group.proofs.FlagLaws.{meant_or, flag_again, meaning_again}
 use Rattle.group.proofs.flags.meaning_of.Statement.{statement}
 use Rattle.group.proofs.flags.meaning_of.Tie as tie
 
-none : tie.Need-returns
+none : tie.Need-returns-then-flag_of-flag
 none c =
-    let kind = c.before.before.before.kind-numbered in
-    let number = c.before.before.before.before.number_by_bits_lem in
+    let kind = c.before.before.before.kind_numbered-kind in
+    let number = c.before.before.before.before.number_by_bits in
     meant_or _ (λ e. sym e) (λ m.
-    let same = c.before.flag-of.ensures ∙ ap (flag_of kind.result) c.before.before.b4.ensures ∙ flag_again _ kind.result m (kind.ensures m.kind (number.ensures m)) in
-    absurd (c.if1.true (rw same)))
+    let same = c.before.flag_of.ensures ∙ ap (flag_of kind.result) c.before.before.b4-warned.ensures ∙ flag_again _ kind.result m (kind.ensures m.kind (number.ensures m)) in
+    absurd (c.if-flag_of-flag.true (rw same)))
 
 pub meaning_of_spec : {M : Type 1} → statement M
 meaning_of_spec =
@@ -23,4 +23,4 @@ meaning_of_spec =
     (λ c κs. search rules)
     (λ c κs. search rules)
     none
-    (λ c. meaning_again _ _ _ (sym c.before.flag-of.ensures ∙ c.if1.false)))
+    (λ c. meaning_again _ _ _ (sym c.before.flag_of.ensures ∙ c.if-flag_of-flag.false)))

@@ -10,7 +10,7 @@ number_by_bits_spec =
     tie.close
     (tie.spec
     (λ c. search rules)
-    (λ c m. rw (lt-ltb _ _ c.if1.true) at (number_by_bits_lem c.before.args.flag m))
+    (λ c m. rw (lt-ltb _ _ c.if-flag-lt16.true) at (number_by_bits_lem c.before.args.flag m))
     (λ c. search rules)
     (λ c. search rules)
-    (λ c m. rw (le-ltb _ _ c.if1.false) at (number_by_bits_lem c.before.args.flag m)))
+    (λ c m. rw (le-ltb _ _ c.if-flag-lt16.false) at (number_by_bits_lem c.before.args.flag m)))

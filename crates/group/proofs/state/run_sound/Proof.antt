@@ -11,9 +11,9 @@ run_sound_spec =
     tie.close
     (tie.spec
     (λ c κs. search rules)
-    (λ c. rw (fails c.before.is-between.ensures c.if1.true))
+    (λ c. rw (fails c.before.is_between.ensures c.if-not-is_between.true))
     (λ c. search rules)
     (λ c κs. search rules)
-    (λ c. rw (holds c.before.before.before.is-between.ensures c.before.before.if1.false, fails c.before.is-between2.ensures c.if2.true))
+    (λ c. rw (holds c.before.before.before.is_between.ensures c.before.before.if-not-is_between.false, fails c.before.is_between-2.ensures c.if-not-is_between-2.true))
     (λ c κs. search rules)
-    (λ c. rw (holds c.before.before.before.before.is-between.ensures c.before.before.before.if1.false, holds c.before.before.is-between2.ensures c.before.if2.false) c.sum_kept.ensures))
+    (λ c. rw (holds c.before.before.before.before.is_between.ensures c.before.before.before.if-not-is_between.false, holds c.before.before.is_between-2.ensures c.before.if-not-is_between-2.false) c.sum_kept.ensures))

@@ -10,7 +10,7 @@ start_refusal_spec =
     tie.close
     (tie.spec
     (λ c κs. search rules)
-    (λ c. two _ _ (fails c.before.is-between.ensures c.if1.true))
+    (λ c. two _ _ (fails c.before.is_between.ensures c.if-not-is_between.true))
     (λ c κs. search rules)
-    (λ c. three _ _ (holds c.before.before.before.is-between.ensures c.before.before.if1.false) (fails c.before.is-between2.ensures c.if2.true))
-    (λ c. starts _ _ (holds c.before.before.before.is-between.ensures c.before.before.if1.false) (holds c.before.is-between2.ensures c.if2.false)))
+    (λ c. three _ _ (holds c.before.before.before.is_between.ensures c.before.before.if-not-is_between.false) (fails c.before.is_between-2.ensures c.if-not-is_between-2.true))
+    (λ c. starts _ _ (holds c.before.before.before.is_between.ensures c.before.before.if-not-is_between.false) (holds c.before.is_between-2.ensures c.if-not-is_between-2.false)))

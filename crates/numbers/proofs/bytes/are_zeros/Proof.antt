@@ -12,11 +12,11 @@ use Rattle.numbers.specs.Store.{zeros}
 use Rattle.numbers.proofs.bytes.are_zeros.Statement.{statement}
 use Rattle.numbers.proofs.bytes.are_zeros.Tie as tie
 
-abbrev invariant-loop : tie.invariant-loop
-invariant-loop bytes i₀ i = (i ≤ length bytes) × (zeros (drop i bytes) ≡ zeros bytes)
+abbrev invariant-loop-i : tie.invariant-loop-i
+invariant-loop-i bytes i₀ i = (i ≤ length bytes) × (zeros (drop i bytes) ≡ zeros bytes)
 
-abbrev decreases-loop : tie.decreases-loop
-decreases-loop bytes i₀ i = length bytes - i
+abbrev decreases-loop-i : tie.decreases-loop-i
+decreases-loop-i bytes i₀ i = length bytes - i
 
 -- A byte that is not zero, a byte that is, and no byte.
 other : (bytes : List ℕ) (i : ℕ) → i < length bytes → (get_or bytes i 0 ≡ 0 → ⊥) → zeros (drop i bytes) ≡ zeros bytes → false ≡ zeros bytes
@@ -32,16 +32,16 @@ pub are_zeros_spec : {M : Type 1} → statement M
 are_zeros_spec =
     tie.close
     (tie.spec
-    invariant-loop
-    decreases-loop
+    invariant-loop-i
+    decreases-loop-i
     (λ c. (omega arith, refl))
     (λ c. omega arith)
     (λ c.
-    let l = c.before.before.before.loop in
-    other _ l.i c.before.before.loop-test.true c.if1.true l.invariant.1)
+    let l = c.before.before.before.loop-i in
+    other _ l.i c.before.before.loop-i-test.true c.if-bytes-i-ne0.true l.invariant.1)
     (λ c. omega arith)
     (λ c. omega arith)
     (λ c.
-    let l = c.before.before.before.loop in
-    (omega arith, zero _ l.i c.before.before.loop-test.true c.if1.false l.invariant.1))
-    (λ c. none _ c.before.loop.i (omega arith) c.before.loop.invariant.1))
+    let l = c.before.before.before.loop-i in
+    (omega arith, zero _ l.i c.before.before.loop-i-test.true c.if-bytes-i-ne0.false l.invariant.1))
+    (λ c. none _ c.before.loop-i.i (omega arith) c.before.loop-i.invariant.1))

@@ -9,11 +9,11 @@ use Rattle.numbers.proofs.Stores.{Stored, stored_none, stored_turn, stored_whole
 use Rattle.numbers.proofs.bytes.put_zeros.Statement.{statement}
 use Rattle.numbers.proofs.bytes.put_zeros.Tie as tie
 
-abbrev invariant-loop : tie.invariant-loop
-invariant-loop group₀ from to n i₀ group i = (i ≤ n) × Stored group₀ from (replicate n 0) group i
+abbrev invariant-loop-i : tie.invariant-loop-i
+invariant-loop-i group₀ from to n i₀ group i = (i ≤ n) × Stored group₀ from (replicate n 0) group i
 
-abbrev decreases-loop : tie.decreases-loop
-decreases-loop group₀ from to n i₀ group i = n - i
+abbrev decreases-loop-i : tie.decreases-loop-i
+decreases-loop-i group₀ from to n i₀ group i = n - i
 
 -- How many zeros there are.
 long : (n : ℕ) → length (replicate {A = ℕ} n 0) ≡ n
@@ -32,14 +32,14 @@ pub put_zeros_spec : {M : Type 1} → statement M
 put_zeros_spec =
     tie.close
     (tie.spec
-    invariant-loop
-    decreases-loop
+    invariant-loop-i
+    decreases-loop-i
     (λ c. omega arith)
     (λ c. (zero-le, stored_none _ c.args.from (replicate (c.args.to - c.args.from) 0)))
     (λ c. omega arith)
     (λ c. omega arith)
     (λ c. omega arith)
     (λ c. omega arith)
-    (λ c. let a = c.before.before.args in (omega arith, turn (a.to - a.from) (omega arith) (omega arith) c.before.loop.invariant.1))
-    (λ c. c.before.loop.invariant.1.long)
-    (λ c. let a = c.before.before.args in whole (a.to - a.from) (omega arith) (omega arith) c.before.loop.invariant.1))
+    (λ c. let a = c.before.before.args in (omega arith, turn (a.to - a.from) (omega arith) (omega arith) c.before.loop-i.invariant.1))
+    (λ c. c.before.loop-i.invariant.1.long)
+    (λ c. let a = c.before.before.args in whole (a.to - a.from) (omega arith) (omega arith) c.before.loop-i.invariant.1))

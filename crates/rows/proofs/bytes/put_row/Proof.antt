@@ -30,7 +30,7 @@ returns : tie.Need-returns
 unfolding entry_at
 returns c =
     let a = c.before.before.before.before.before.before.before.before.before.before.before.before.before.before.before.before.before.args in
-    let told = c.before.before.before.before.number_by_bits_lem in
+    let told = c.before.before.before.before.number_by_bits in
     let moved = c.before.before.before.before.before.before.before.before.move-count in
     let m = meaning_of (get_or a.group.now a.at 0) in (
       c.reached-by.ensures ∙ ap (λ (n : ℕ). reached_by m a.reached n) moved.ensures.0.0,

@@ -7,11 +7,11 @@ use Rattle.third.proofs.refusals.length_refusal.Tie as tie
 
 returns : tie.Need-returns
 unfolding length_refusal
-returns c = search (fails c.before.length_kept_lem.ensures c.if1.true, tests)
+returns c = search (fails c.before.length_kept.ensures c.if1.true, tests)
 
 returns-2 : tie.Need-returns-2
 unfolding length_refusal
-returns-2 c = search (holds c.before.length_kept_lem.ensures c.if1.false, tests)
+returns-2 c = search (holds c.before.length_kept.ensures c.if1.false, tests)
 
 pub length_refusal_spec : {M : Type 1} → statement M
 length_refusal_spec = tie.close (tie.spec (λ c κs. search rules) returns returns-2)

@@ -20,7 +20,7 @@ decreases-loop area packs items track numbers block₀ block = 16 - block
 
 -- The slices are of their lengths, and the Area ID is allowed.
 long : (c : tie.Else2 invariant-loop decreases-loop) → lengths_kept c.before.before.before.before.before.args.track (length c.before.before.before.before.before.args.packs.now) c.before.before.before.before.before.args.items c.before.before.before.before.before.args.numbers ≡ true
-long c = holds c.before.before.before.lengths_kept_lem.ensures c.before.before.if1.false
+long c = holds c.before.before.before.lengths_kept.ensures c.before.before.if1.false
 
 allowed : (c : tie.Else2 invariant-loop decreases-loop) → area_kept c.before.before.before.before.before.args.area ≡ true
 allowed c = holds c.before.area-kept.ensures c.if2.false
@@ -40,9 +40,9 @@ judge_making_spec =
     invariant-loop
     decreases-loop
     (λ c κs. search rules)
-    (λ c. make_lengths _ _ _ _ _ (fails c.before.lengths_kept_lem.ensures c.if1.true))
+    (λ c. make_lengths _ _ _ _ _ (fails c.before.lengths_kept.ensures c.if1.true))
     (λ c κs. search rules)
-    (λ c. make_area _ _ _ _ _ (holds c.before.before.before.lengths_kept_lem.ensures c.before.before.if1.false) (fails c.before.area-kept.ensures c.if2.true))
+    (λ c. make_area _ _ _ _ _ (holds c.before.before.before.lengths_kept.ensures c.before.before.if1.false) (fails c.before.area-kept.ensures c.if2.true))
     (λ c. record { within = omega arith; same = refl })
     (λ c κs. ((lengths _ _ _ _ (long c.before.before)).packs, c.loop-test.true))
     (λ c κs. search rules)

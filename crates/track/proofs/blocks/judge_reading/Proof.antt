@@ -27,7 +27,7 @@ decreases-loop area track packs items numbers block₀ block = 16 - block
 
 -- The slices are of their lengths.
 long : (c : tie.Else1 invariant-loop decreases-loop) → lengths_kept (length c.before.before.before.args.track.now) c.before.before.before.args.packs c.before.before.before.args.items c.before.before.before.args.numbers ≡ true
-long c = holds c.before.lengths_kept_lem.ensures c.if1.false
+long c = holds c.before.lengths_kept.ensures c.if1.false
 
 -- A block is what lies between its ends.
 cut : (area : ℕ) (track : List ℕ) (block fault : ℕ) → fault ≡ block_fault area block (take (35 * block + 35 - 35 * block) (drop (35 * block) track)) → fault ≡ fault_of area track block
@@ -40,7 +40,7 @@ judge_reading_spec =
     invariant-loop
     decreases-loop
     (λ c κs. search rules)
-    (λ c. read_lengths _ _ _ _ _ (fails c.before.lengths_kept_lem.ensures c.if1.true))
+    (λ c. read_lengths _ _ _ _ _ (fails c.before.lengths_kept.ensures c.if1.true))
     (λ c. ((lengths _ _ _ _ (long c)).track, record { within = omega arith; same = refl }))
     (λ c. omega arith)
     (λ c. omega arith)
