@@ -13,19 +13,19 @@ block_fault_spec =
     (λ c. search rules)
     (λ c. search rules)
     (λ c. search rules)
-    (λ c. at_parity _ _ _ (ne_eqb _ _ c.if1.true))
+    (λ c. at_parity _ _ _ (ne_eqb _ _ c.if-block-sw1.true))
     (λ c κs. search rules)
-    (λ c. at_sw1 _ _ _ (eq-eqb _ _ c.before.before.if1.false) (fails c.before.sw1-kept.ensures c.if2.true))
+    (λ c. at_sw1 _ _ _ (eq-eqb _ _ c.before.before.if-block-sw1.false) (fails c.before.sw1_kept.ensures c.if-not-sw1_kept.true))
     (λ c κs. search rules)
     (λ c.
     let a = c.before.before in
-    at_sw2 _ _ _ (eq-eqb _ _ a.before.before.if1.false) (holds a.before.sw1-kept.ensures a.if2.false) (fails c.before.sw2-kept.ensures c.if3.true))
+    at_sw2 _ _ _ (eq-eqb _ _ a.before.before.if-block-sw1.false) (holds a.before.sw1_kept.ensures a.if-not-sw1_kept.false) (fails c.before.sw2_kept.ensures c.if-not-sw2_kept.true))
     (λ c κs. search rules)
     (λ c.
     let b = c.before.before in
     let a = b.before.before in
-    at_close _ _ _ (eq-eqb _ _ a.before.before.if1.false) (holds a.before.sw1-kept.ensures a.if2.false) (holds b.before.sw2-kept.ensures b.if3.false) (fails c.before.close-kept.ensures c.if4.true))
+    at_close _ _ _ (eq-eqb _ _ a.before.before.if-block-sw1.false) (holds a.before.sw1_kept.ensures a.if-not-sw1_kept.false) (holds b.before.sw2_kept.ensures b.if-not-sw2_kept.false) (fails c.before.close_kept.ensures c.if-not-close_kept.true))
     (λ c.
     let b = c.before.before in
     let a = b.before.before in
-    at_none _ _ _ (eq-eqb _ _ a.before.before.if1.false) (holds a.before.sw1-kept.ensures a.if2.false) (holds b.before.sw2-kept.ensures b.if3.false) (holds c.before.close-kept.ensures c.if4.false)))
+    at_none _ _ _ (eq-eqb _ _ a.before.before.if-block-sw1.false) (holds a.before.sw1_kept.ensures a.if-not-sw1_kept.false) (holds b.before.sw2_kept.ensures b.if-not-sw2_kept.false) (holds c.before.close_kept.ensures c.if-not-close_kept.false)))

@@ -11,11 +11,11 @@ close_kept_spec =
     (tie.spec
     (λ c. search rules)
     (λ c κs. search rules)
-    (λ c. rw (← c.before.pack-of.ensures, ne_eqb _ _ c.if1.true))
+    (λ c. rw (← c.before.pack_of.ensures, ne_eqb _ _ c.if-pack_of-ne6.true))
     (λ c. search rules)
     (λ c. search rules)
     (λ c. search rules)
     (λ c κs. search rules)
     (λ c.
     let t = c.before.before in
-    rw (← t.before.pack-of.ensures, eq-eqb _ _ t.if1.false, ← take_rest 27 t.before.before.before.before.args.block.now) c.are-zeros.ensures))
+    rw (← t.before.pack_of.ensures, eq-eqb _ _ t.if-pack_of-ne6.false, ← take_rest 27 t.before.before.before.before.args.block.now) c.are_zeros.ensures))

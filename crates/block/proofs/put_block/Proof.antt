@@ -11,7 +11,7 @@ returns c =
     let header = items.before.before.before.before.before in
     let s = header.before.before.before.before in
     block_stored s.args.area s.args.pack s.args.block s.args.at s.args.places.now _ _ _ _ s.requires.0.1
-    header.put-header.ensures items.put-bytes.ensures close.put-close.ensures
+    header.put_header.ensures items.put_bytes.ensures close.put_close.ensures
 
 pub put_block_spec : {M : Type 1} → statement M
 put_block_spec =

@@ -15,14 +15,14 @@ none k b e = sym (ap (times k) e ∙ times_zero k)
 some : (k b l r : ℕ) → k ≤ 255 → b < 256 → (b ≡ 0 → ⊥) → l ≡ logarithm_at b → r ≡ power_at ((l + k) % 255) → r ≡ times k b
 some k b l r hk h d e f = f ∙ ap (λ (x : ℕ). power_at ((x + k) % 255)) e ∙ sym (by_tables k b hk h d)
 
-returns : tie.Need-returns
-returns c = none c.before.args.k c.before.args.byte c.if1.true
+returns : tie.Need-returns-then-byte-eq0
+returns c = none c.before.args.k c.before.args.byte c.if-byte-eq0.true
 
-returns-2 : tie.Need-returns-2
+returns-2 : tie.Need-returns
 returns-2 c =
     let a = c.before.before.before.args in
-    some a.k a.byte c.before.logarithm-of.result c.power-of.result c.before.before.before.requires.2 (search rules)
-    c.before.before.if1.false c.before.logarithm-of.ensures.0 c.power-of.ensures
+    some a.k a.byte c.before.logarithm_of.result c.power_of.result c.before.before.before.requires.2 (search rules)
+    c.before.before.if-byte-eq0.false c.before.logarithm_of.ensures.0 c.power_of.ensures
 
 pub times_spec : {M : Type 1} → statement M
 times_spec =

@@ -10,17 +10,17 @@ unfolding area_kept
 area_kept_spec =
     tie.close
     (tie.spec
-    (λ c. rw (lt-leb _ _ c.if1.true))
+    (λ c. rw (lt-leb _ _ c.if-area-gt15.true))
     (λ c κs. search rules)
     (λ c.
     let t = c.before in
-    rw (le-leb _ _ t.before.if1.false, ← t.tape-area.ensures, eq-eqb _ _ c.if2.true))
+    rw (le-leb _ _ t.before.if-area-gt15.false, ← t.tape_area-tape_area.ensures, eq-eqb _ _ c.if-tape_area-eq-REFERENCE_AREA.true))
     (λ c.
     let t = c.before.before in
-    rw (le-leb _ _ t.before.if1.false, ← t.tape-area.ensures, ne_eqb _ _ c.before.if2.false, eq-eqb _ _ c.if3.true))
+    rw (le-leb _ _ t.before.if-area-gt15.false, ← t.tape_area-tape_area.ensures, ne_eqb _ _ c.before.if-tape_area-eq-REFERENCE_AREA.false, eq-eqb _ _ c.if-tape_area-eq-SYSTEM_AREA.true))
     (λ c.
     let t = c.before.before.before in
-    rw (le-leb _ _ t.before.if1.false, ← t.tape-area.ensures, ne_eqb _ _ c.before.before.if2.false, ne_eqb _ _ c.before.if3.false, eq-eqb _ _ c.if4.true))
+    rw (le-leb _ _ t.before.if-area-gt15.false, ← t.tape_area-tape_area.ensures, ne_eqb _ _ c.before.before.if-tape_area-eq-REFERENCE_AREA.false, ne_eqb _ _ c.before.if-tape_area-eq-SYSTEM_AREA.false, eq-eqb _ _ c.if-tape_area-eq-DATA_AREA.true))
     (λ c.
     let t = c.before.before.before in
-    rw (le-leb _ _ t.before.if1.false, ← t.tape-area.ensures, ne_eqb _ _ c.before.before.if2.false, ne_eqb _ _ c.before.if3.false, ne_eqb _ _ c.if4.false)))
+    rw (le-leb _ _ t.before.if-area-gt15.false, ← t.tape_area-tape_area.ensures, ne_eqb _ _ c.before.before.if-tape_area-eq-REFERENCE_AREA.false, ne_eqb _ _ c.before.if-tape_area-eq-SYSTEM_AREA.false, ne_eqb _ _ c.if-tape_area-eq-DATA_AREA.false)))

@@ -9,7 +9,7 @@ use Rattle.header.proofs.put_header.Tie as tie
 
 returns : tie.Need-returns
 unfolding header_of
-returns c = rw (← c.before.sw1.ensures, ← c.sw2.ensures) (put_three _ _ _ _ _)
+returns c = rw (← c.before.sw1-sw1.ensures, ← c.sw2-sw2.ensures) (put_three _ _ _ _ _)
 
 pub put_header_spec : {M : Type 1} → statement M
 put_header_spec =

@@ -10,6 +10,6 @@ sw1_spec =
     tie.close
     (tie.spec
     (λ c κs. search rules)
-    (λ c. rw (fails c.before.is-even.ensures c.if1.true))
+    (λ c. rw (fails c.before.is_even.ensures c.if-not-is_even.true))
     (λ c. search rules)
-    (λ c. rw (holds c.before.is-even.ensures c.if1.false) (sw1_made c.before.before.args.area c.before.before.requires)))
+    (λ c. rw (holds c.before.is_even.ensures c.if-not-is_even.false) (sw1_made c.before.before.args.area c.before.before.requires)))

@@ -13,15 +13,15 @@ sw1_kept_spec =
     tie.close
     (tie.spec
     (λ c κs. search rules)
-    (λ c. rw (fails c.before.is-even.ensures c.if1.true))
+    (λ c. rw (fails c.before.is_even.ensures c.if-not-is_even.true))
     (λ c.
     let e = c.before in
-    rw (holds e.before.is-even.ensures e.if1.false, ← and_mask e.before.before.args.sw1 4, ne_eqb _ _ c.if2.true))
+    rw (holds e.before.is_even.ensures e.if-not-is_even.false, ← and_mask e.before.before.args.sw1 4, ne_eqb _ _ c.if-sw1-ne8.true))
     (λ c. search rules)
     (λ c.
     let e = c.before.before in
-    rw (holds e.before.is-even.ensures e.if1.false, ← and_mask e.before.before.args.sw1 4, eq-eqb _ _ c.before.if2.false, ne_eqb _ _ c.if3.true))
+    rw (holds e.before.is_even.ensures e.if-not-is_even.false, ← and_mask e.before.before.args.sw1 4, eq-eqb _ _ c.before.if-sw1-ne8.false, ne_eqb _ _ c.if-sw1-area.true))
     (λ c κs. search rules)
     (λ c.
     let e = c.before.before.before in
-    rw (holds e.before.is-even.ensures e.if1.false, ← and_mask e.before.before.args.sw1 4, eq-eqb _ _ c.before.before.if2.false, eq-eqb _ _ c.before.if3.false) c.area-kept.ensures))
+    rw (holds e.before.is_even.ensures e.if-not-is_even.false, ← and_mask e.before.before.args.sw1 4, eq-eqb _ _ c.before.before.if-sw1-ne8.false, eq-eqb _ _ c.before.if-sw1-area.false) c.area_kept.ensures))

@@ -15,13 +15,13 @@ unfolding sw2_kept
 sw2_kept_spec =
     tie.close
     (tie.spec
-    (λ c. rw (ne_eqb _ _ c.if1.true))
+    (λ c. rw (ne_eqb _ _ c.if-sw2-ne1.true))
     (λ c κs. search rules)
     (λ c κs. search rules)
     (λ c.
     let k = c.before in
-    rw (eq-eqb _ _ k.before.before.if1.false, ← k.before.pack-of.ensures, fails k.pack-kept.ensures c.if2.true))
+    rw (eq-eqb _ _ k.before.before.if-sw2-ne1.false, ← k.before.pack_of.ensures, fails k.pack_kept.ensures c.if-not-pack_kept.true))
     (λ c.
     let k = c.before in
-    rw (eq-eqb _ _ k.before.before.if1.false, ← k.before.pack-of.ensures, holds k.pack-kept.ensures c.if2.false)
+    rw (eq-eqb _ _ k.before.before.if-sw2-ne1.false, ← k.before.pack_of.ensures, holds k.pack_kept.ensures c.if-not-pack_kept.false)
     (ap (λ (n : ℕ). eqb n k.before.before.before.args.block) (and_mask k.before.before.before.args.sw2 4))))

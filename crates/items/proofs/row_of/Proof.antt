@@ -12,12 +12,12 @@ row_of_spec =
     tie.close
     (tie.spec
     (λ c κs. search rules)
-    (λ c. (rw (← c.before.tape-area.ensures, eq-eqb _ _ c.if1.true), search rules))
-    (λ c. (rw (← c.before.before.tape-area.ensures, ne_eqb _ _ c.before.if1.false, ne_eqb _ _ c.if2.true), search rules))
+    (λ c. (rw (← c.before.tape_area-tape_area.ensures, eq-eqb _ _ c.if-tape_area-eq-DATA_AREA.true), search rules))
+    (λ c. (rw (← c.before.before.tape_area-tape_area.ensures, ne_eqb _ _ c.before.if-tape_area-eq-DATA_AREA.false, ne_eqb _ _ c.if-tape_area-ne-SYSTEM_AREA.true), search rules))
     (λ c κs. search rules)
     (λ c.
     let t = c.before.before in
-    (rw (← t.before.before.tape-area.ensures, ne_eqb _ _ t.before.if1.false, eq-eqb _ _ t.if2.false, fails c.before.is-between.ensures c.if3.true), search rules))
+    (rw (← t.before.before.tape_area-tape_area.ensures, ne_eqb _ _ t.before.if-tape_area-eq-DATA_AREA.false, eq-eqb _ _ t.if-tape_area-ne-SYSTEM_AREA.false, fails c.before.is_between.ensures c.if-not-is_between.true), search rules))
     (λ c.
     let t = c.before.before in
-    (rw (← t.before.before.tape-area.ensures, ne_eqb _ _ t.before.if1.false, eq-eqb _ _ t.if2.false, holds c.before.is-between.ensures c.if3.false), search rules)))
+    (rw (← t.before.before.tape_area-tape_area.ensures, ne_eqb _ _ t.before.if-tape_area-eq-DATA_AREA.false, eq-eqb _ _ t.if-tape_area-ne-SYSTEM_AREA.false, holds c.before.is_between.ensures c.if-not-is_between.false), search rules)))

@@ -12,4 +12,4 @@ pair_at_spec =
     (λ c. search rules)
     (λ c. search rules)
     (λ c κs. search rules)
-    (λ c. pair_halved c.before.before.args.bytes.now c.before.before.args.i c.number_at.result (λ k. omega (arith, c.before.shared-slice-known.given k)) c.number_at.ensures))
+    (λ c. pair_halved c.before.before.args.bytes.now c.before.before.args.i c.number_at-both.result (λ k. omega (arith, c.before.shared_slice_known-1.given k)) c.number_at-both.ensures))

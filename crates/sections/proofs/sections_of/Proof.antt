@@ -12,8 +12,8 @@ unfolding sections_of
 sections_of_spec =
     tie.close
     (tie.spec
-    (λ c. (short _ 4 _ _ c.if1.true, search rules))
+    (λ c. (short _ 4 _ _ c.if-bytes-lt4.true, search rules))
     (λ c κs. search rules)
-    (λ c. (spoilt _ 4 _ _ c.before.before.if1.false (rw (sym c.before.number_at.ensures) (ne_eqb _ _ c.if2.true)), tt))
+    (λ c. (spoilt _ 4 _ _ c.before.before.if-bytes-lt4.false (rw (sym c.before.number_at.ensures) (ne_eqb _ _ c.if-number_at-ne1.true)), tt))
     (λ c κs. search rules)
-    (λ c. (c.size-section.ensures.0 ∙ kept _ 4 _ _ c.before.before.before.if1.false (rw (sym c.before.before.number_at.ensures) (eq-eqb _ _ c.before.if2.false)), c.size-section.ensures.1)))
+    (λ c. (c.size_section.ensures.0 ∙ kept _ 4 _ _ c.before.before.before.if-bytes-lt4.false (rw (sym c.before.before.number_at.ensures) (eq-eqb _ _ c.before.if-number_at-ne1.false)), c.size_section.ensures.1)))

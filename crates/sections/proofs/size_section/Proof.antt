@@ -12,9 +12,9 @@ unfolding size_section
 size_section_spec =
     tie.close
     (tie.spec
-    (λ c. (short _ 8 _ _ c.if1.true, search rules))
+    (λ c. (short _ 8 _ _ c.if-bytes-lt8.true, search rules))
     (λ c κs. search rules)
     (λ c κs. search rules)
-    (λ c. (spoilt _ 8 _ _ c.before.before.before.if1.false (rw (sym c.before.before.number_at.ensures) (fails c.before.is-between.ensures c.if2.true)), tt))
-    (λ c κs. holds c.before.is-between.ensures c.if2.false)
-    (λ c. (rw (sym c.before.before.before.number_at.ensures) (c.groups-section.ensures.0 ∙ kept _ 8 _ _ c.before.before.before.before.if1.false (holds c.before.before.is-between.ensures c.before.if2.false)), c.groups-section.ensures.1)))
+    (λ c. (spoilt _ 8 _ _ c.before.before.before.if-bytes-lt8.false (rw (sym c.before.before.number_at-size.ensures) (fails c.before.is_between.ensures c.if-not-is_between.true)), tt))
+    (λ c κs. holds c.before.is_between.ensures c.if-not-is_between.false)
+    (λ c. (rw (sym c.before.before.before.number_at-size.ensures) (c.groups_section.ensures.0 ∙ kept _ 8 _ _ c.before.before.before.before.if-bytes-lt8.false (holds c.before.before.is_between.ensures c.before.if-not-is_between.false)), c.groups_section.ensures.1)))

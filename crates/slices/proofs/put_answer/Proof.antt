@@ -14,7 +14,7 @@ returns c =
     let c2 = c3.before.before.before.before in
     let c1 = c2.before.before.before.before in
     let s = c1.before.before.before in
-    rw (c6.put-number6.ensures, c5.put-number5.ensures, c4.put-number4.ensures, c3.put-number3.ensures, c2.put-number2.ensures, c1.put-number.ensures) (puts_whole s.args.answer.now (s.args.refusal ∷ s.args.place ∷ s.args.outcome ∷ s.args.number ∷ s.args.entries ∷ s.args.taken ∷ []) s.requires)
+    rw (c6.put_number-6.ensures, c5.put_number-5.ensures, c4.put_number-4.ensures, c3.put_number-3.ensures, c2.put_number-2.ensures, c1.put_number.ensures) (puts_whole s.args.answer.now (s.args.refusal ∷ s.args.place ∷ s.args.outcome ∷ s.args.number ∷ s.args.entries ∷ s.args.taken ∷ []) s.requires)
 
 pub put_answer_spec : {M : Type 1} → statement M
 put_answer_spec =

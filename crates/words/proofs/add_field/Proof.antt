@@ -16,4 +16,4 @@ add_field_spec =
     (λ c.
     let two = c.before.before in
     let one = two.before.before.before.before in
-    added_then one.add-byte.ensures two.add-number.ensures))
+    added_then one.add_byte-next.ensures two.add_number.ensures))

@@ -8,8 +8,8 @@ use Rattle.words.proofs.NameLaws.{Stands, stands, part_same, part_few}
 use Rattle.words.proofs.add_kind.Statement.{statement}
 use Rattle.words.proofs.add_kind.Tie as tie
 
-part : (c : tie.After-names-below2) → Stands c.before.before.before.before.before.args.kind c.before.names-below.result c.names-below2.result
-part c = stands _ _ _ c.before.names-below.ensures c.names-below2.ensures
+part : (c : tie.After-names_below-to) → Stands c.before.before.before.before.before.args.kind c.before.names_below-from.result c.names_below-to.result
+part c = stands _ _ _ c.before.names_below-from.ensures c.names_below-to.ensures
 
 room : (at few all : ℕ) → at + 9 ≤ all → few ≤ 9 → at + few ≤ all
 room at few all h f = omega arith

@@ -16,4 +16,4 @@ add_labelled_spec =
     (λ c.
     let two = c.before.before in
     let one = two.before.before.before.before in
-    added_then one.add.ensures two.add-field.ensures))
+    added_then one.add-said.ensures two.add_field.ensures))

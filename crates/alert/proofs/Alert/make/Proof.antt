@@ -19,4 +19,4 @@ make_spec =
     let n₁ = n₂.before.before.before.before in
     let i = n₁.before.before in
     let a = i.before.before.args in
-    alert_made_lem a.high a.low a.alert.now _ _ _ i.if1.false n₁.put-number.ensures n₂.put-number2.ensures c.counted.ensures))
+    alert_made_lem a.high a.low a.alert.now _ _ _ i.if-alert-ne-LENGTH.false n₁.put_number.ensures n₂.put_number-2.ensures c.counted.ensures))

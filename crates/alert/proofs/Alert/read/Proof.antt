@@ -16,4 +16,4 @@ read_spec =
     (λ c.
     let n = c.before.before in
     let i = n.before in
-    read_counted _ _ _ _ (λ k. omega (arith, i.before.shared-slice-known.given k)) i.if1.false n.number_at.ensures c.before.number-at2.ensures c.counted.ensures))
+    read_counted _ _ _ _ (λ k. omega (arith, i.before.shared_slice_known-1.given k)) i.if-alert-ne-LENGTH.false n.number_at-high.ensures c.before.number_at-low.ensures c.counted.ensures))

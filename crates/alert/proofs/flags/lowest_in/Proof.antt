@@ -13,9 +13,9 @@ lowest_in_spec =
     tie.close
     (tie.spec
     (λ c κs. search rules)
-    (λ c. let a = c.before.before.args in lowest_none a.high a.low (omega arith) (omega arith) (sym c.before.word_of.ensures ∙ c.if1.true))
-    (λ c. omega (arith, leading_le 64 c.before.word_of.result))
+    (λ c. let a = c.before.before.args in lowest_none a.high a.low (omega arith) (omega arith) (sym c.before.word_of-word.ensures ∙ c.if-word-eq0.true))
+    (λ c. omega (arith, leading_le 64 c.before.word_of-word.result))
     (λ c.
     let a = c.before.before.args in
-    ap (λ (n : ℕ). count_leading_zeros 64 n + 1) c.before.word_of.ensures
-    ∙ lowest_leading a.high a.low (omega arith) (omega arith) (λ z. c.if1.false (c.before.word_of.ensures ∙ z))))
+    ap (λ (n : ℕ). count_leading_zeros 64 n + 1) c.before.word_of-word.ensures
+    ∙ lowest_leading a.high a.low (omega arith) (omega arith) (λ z. c.if-word-eq0.false (c.before.word_of-word.ensures ∙ z))))

@@ -27,7 +27,7 @@ returns : tie.Need-returns
 returns c =
     let p = c.before.before in
     let a = p.before.before.before.before.before.before.args in (
-      laid a.kind a.count a.w a.group.now p.before.before.before.entry-offset.ensures p.before.before.flag-of.ensures p.put-entry.ensures,
+      laid a.kind a.count a.w a.group.now p.before.before.before.entry_offset-at.ensures p.before.before.flag_of-flag.ensures p.put_entry.ensures,
       search rules,
     )
 

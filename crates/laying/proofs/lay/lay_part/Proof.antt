@@ -22,7 +22,7 @@ returns c =
     let e = c.before.before in
     let p = e.before.before.before.before.before in
     let a = p.before.before.before.before.before.args in
-    (laid a.kind a.«data».now a.w a.group.now p.put-bytes.ensures e.lay-entry.ensures.0, search rules)
+    (laid a.kind a.«data».now a.w a.group.now p.put_bytes.ensures e.lay_entry.ensures.0, search rules)
 
 pub lay_part_spec : {M : Type 1} → statement M
 lay_part_spec =

@@ -16,7 +16,7 @@ returns c =
     let z = c.before.before.before in
     let l = z.before.before.before.before.before.before in
     let a = l.before.before.before.before.args in
-    rw (z.put-zeros.ensures, z.before.before.entry-offset.ensures) (skipped (desk a.w a.group.now) l.lay-entry.ensures.0)
+    rw (z.put_zeros.ensures, z.before.before.entry_offset-to.ensures) (skipped (desk a.w a.group.now) l.lay_entry-v.ensures.0)
 
 pub shut_spec : {M : Type 1} → statement M
 shut_spec =

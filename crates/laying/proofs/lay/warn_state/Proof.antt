@@ -9,5 +9,5 @@ unfolding warn_state
 warn_state_spec =
     tie.close
     (tie.spec
-    (λ c. (rw c.if1.true, search rules))
-    (λ c. (rw c.if1.false, search rules)))
+    (λ c. (rw c.if-warn.true, search rules))
+    (λ c. (rw c.if-warn.false, search rules)))

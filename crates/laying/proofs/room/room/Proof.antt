@@ -10,8 +10,8 @@ use Rattle.laying.proofs.room.room.Statement.{statement}
 use Rattle.laying.proofs.room.room.Tie as tie
 
 -- What is open of the group above its data, below one entry more.
-abbrev vacant : tie.After-struct-known2 → ℕ
-vacant c = c.before.entry-offset.result - c.before.before.before.args.w.filled
+abbrev vacant : tie.After-struct_known-2-1 → ℕ
+vacant c = c.before.entry_offset.result - c.before.before.before.args.w.filled
 
 returns : tie.Need-returns
 unfolding room

@@ -11,7 +11,7 @@ byte_refusal_spec =
     tie.close
     (tie.spec
     (λ c κs. search rules)
-    (λ c. thickness_prohibited _ _ _ c.before.thickness-of.ensures (omega arith))
+    (λ c. thickness_prohibited _ _ _ c.before.thickness_of.ensures (omega arith))
     (λ c κs. search rules)
-    (λ c. let t = c.before.before in flags_prohibited _ _ _ t.before.thickness-of.ensures (omega arith) (fails c.before.flags-kept.ensures c.if2.true))
-    (λ c. let t = c.before.before in bytes_kept _ _ _ t.before.thickness-of.ensures (omega arith) (holds c.before.flags-kept.ensures c.if2.false)))
+    (λ c. let t = c.before.before in flags_prohibited _ _ _ t.before.thickness_of.ensures (omega arith) (fails c.before.flags_kept.ensures c.if-not-flags_kept.true))
+    (λ c. let t = c.before.before in bytes_kept _ _ _ t.before.thickness_of.ensures (omega arith) (holds c.before.flags_kept.ensures c.if-not-flags_kept.false)))

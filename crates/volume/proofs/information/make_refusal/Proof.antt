@@ -9,11 +9,11 @@ pub make_refusal_spec : {M : Type 1} → statement M
 make_refusal_spec =
     tie.close
     (tie.spec
-    (λ c. make_fields _ _ c.if1.true)
-    (λ c. make_volume _ _ c.before.if1.false c.if2.true)
+    (λ c. make_fields _ _ c.if-fields-ne-FIELDS_LENGTH.true)
+    (λ c. make_volume _ _ c.before.if-fields-ne-FIELDS_LENGTH.false c.if-volume-ne-LENGTH.true)
     (λ c. search rules)
     (λ c. search rules)
     (λ c κs. search rules)
     (λ c.
     let b = c.before.before.before in
-    c.byte-refusal.ensures ∙ make_bytes _ _ b.before.if1.false b.if2.false))
+    c.byte_refusal.ensures ∙ make_bytes _ _ b.before.if-fields-ne-FIELDS_LENGTH.false b.if-volume-ne-LENGTH.false))

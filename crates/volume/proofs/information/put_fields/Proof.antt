@@ -16,4 +16,4 @@ put_fields_spec =
     (λ c.
     let b = c.before.before in
     let s = b.before.before.before.before.before in
-    fields_stored s.args.volume.now _ _ s.requires.0 s.requires.1 b.put-bytes.ensures))
+    fields_stored s.args.volume.now _ _ s.requires.0 s.requires.1 b.put_bytes.ensures))

@@ -17,4 +17,4 @@ put_volume_spec =
     let b = z₂.before.before.before.before in
     let z₁ = b.before.before.before.before in
     let s = z₁.before.before.before.before in
-    volume_stored s.args.fields.now _ _ _ _ s.requires.0 s.requires.1 z₁.put-zeros.ensures b.put-bytes.ensures z₂.put-zeros2.ensures))
+    volume_stored s.args.fields.now _ _ _ _ s.requires.0 s.requires.1 z₁.put_zeros.ensures b.put_bytes.ensures z₂.put_zeros-2.ensures))

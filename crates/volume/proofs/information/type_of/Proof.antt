@@ -9,5 +9,5 @@ type_of_spec =
     tie.close
     (tie.spec
     (λ c κs. search rules)
-    (λ c. rw (← c.before.thickness-of.ensures, eq-eqb _ _ c.if1.true))
-    (λ c. rw (← c.before.thickness-of.ensures, ne_eqb _ _ c.if1.false)))
+    (λ c. rw (← c.before.thickness_of.ensures, eq-eqb _ _ c.if-thickness_of-eq0.true))
+    (λ c. rw (← c.before.thickness_of.ensures, ne_eqb _ _ c.if-thickness_of-eq0.false)))

@@ -11,8 +11,7 @@ use Rattle.group.specs.declared.Phase.TheVariants.{Free, Inside, Owed}
 use Rattle.laying.specs.Laying.{desk, ready, pay_owed, moved, lay_entry, warn_state}
 use Rattle.laying.specs.declared.Writer.{Writer}
 use Rattle.laying.specs.Bounds.{Grown}
-use Rattle.laying.proofs.lay.ready.Statement.{statement}
-use Rattle.laying.proofs.lay.ready.Tie as tie
+use Rattle.laying.proofs.lay.ready.Goals as goal
 
 -- Where no total is owed, the state is ready once b4 is as the call says.
 unowed : {p : Phase} (w : Writer) (g : List ℕ) (warn : Bool) {v : Writer} → pay_owed p (desk (warn_state warn w) g) ≡ desk (warn_state warn w) g
@@ -28,46 +27,34 @@ same warn e grown = (grown, ap (λ (s : Writer). s.sum) e)
 inside_owed : {p : Phase} → p ≡ Inside → p ≡ Owed → ⊥
 inside_owed i o = let z : ◌≡◌ {A = ℕ} 0 1 = cc in absurd (omega arith)
 
-free : tie.Need-returns
+pub returns-in-Free : goal.returns-in-Free
 unfolding pay_owed
-free c =
-    let a = c.before.before.before.before.args in
-    let v = c.before.before.warn-state.ensures in
-    (unowed a.w a.group.now a.warn refl c.enum_told.given.1 v.0, (search rules, λ i. same a.warn v.0 v.1))
+returns-in-Free c =
+    let a = c.args in
+    let v = c.warn_state-v.ensures in
+    record { group_after = unowed a.w a.group.now a.warn refl c.in-Free.is v.value; roomy = search rules; grown = λ i. same a.warn v.value v.grown }
 
-inside : tie.Need-returns-2
+pub returns-in-Inside : goal.returns-in-Inside
 unfolding pay_owed
-inside c =
-    let a = c.before.before.before.before.args in
-    let v = c.before.before.warn-state.ensures in
-    (unowed a.w a.group.now a.warn refl c.enum-told2.given.1 v.0, (search rules, λ i. same a.warn v.0 v.1))
+returns-in-Inside c =
+    let a = c.args in
+    let v = c.warn_state-v.ensures in
+    record { group_after = unowed a.w a.group.now a.warn refl c.in-Inside.is v.value; roomy = search rules; grown = λ i. same a.warn v.value v.grown }
 
-owed : tie.Need-returns-3
+pub returns-in-Owed : goal.returns-in-Owed
 unfolding ready pay_owed moved
-owed c =
-    let s = c.before.before.before.before.before.before.before.before.before in
+returns-in-Owed c =
+    let s = c in
     let w = s.args.w in
     let g = s.args.group.now in
-    let told = c.before.before.before.before.before.enum-told3.given.1 in
-    let none = s.requires.owing told in (
-      rw c.moved.ensures.0
-          (ap (moved Free 0 0) c.before.before.before.lay-entry.ensures.0
-          ∙ ap (λ (v : Writer). moved Free 0 0 (lay_entry Total v.sum (desk v g))) c.before.before.before.before.before.before.before.warn-state.ensures.0
-          ∙ sym (ap (λ (p : Phase). pay_owed p (desk (warn_state s.args.warn w) g)) told)),
-      (search rules, λ i. absurd (inside_owed i told)),
-    )
-
-pub ready_spec : {M : Type 1} → statement M
-ready_spec =
-    tie.close
-    (tie.spec
-    (λ c κs. search rules)
-    (λ c. search rules)
-    (λ c. search rules)
-    (λ c. search rules)
-    (λ c κs. search rules)
-    (λ c κs. search rules)
-    free
-    inside
-    (λ c. search rules)
-    owed)
+    let told = c.in-Owed.is in
+    let none = s.requires.owing told in
+    record {
+      group_after =
+          rw c.moved.ensures.value
+          (ap (moved Free 0 0) c.lay_entry-paid.ensures.group_after
+          ∙ ap (λ (v : Writer). moved Free 0 0 (lay_entry Total v.sum (desk v g))) c.warn_state-v.ensures.value
+          ∙ sym (ap (λ (p : Phase). pay_owed p (desk (warn_state s.args.warn w) g)) told));
+      roomy = search rules;
+      grown = λ i. absurd (inside_owed i told);
+    }
