@@ -77,10 +77,10 @@ record Fewer (w : Desk) (bytes : List ℕ) (calls : ℕ) (v : Desk) (left : List
   some : 1 ≤ calls → 1 ≤ length left
   fewer : (calls - 1) * least_taken w.state.size + length left ≤ length bytes
 
-offered : {w v : Desk} {bytes left : List ℕ} {calls : ℕ} → Offers w bytes calls v left → Fewer w bytes calls v left
+offered : {w : Desk} {bytes : List ℕ} {v : Desk} {left : List ℕ} {calls : ℕ} → Offers w bytes calls v left → Fewer w bytes calls v left
 unfolding call refusal_of
 offered at_first = record { size = refl; empty = λ h. absurd (omega arith); low = λ h. absurd (omega arith); some = λ h. absurd (omega arith); fewer = omega arith }
-offered {w} {bytes = bytes} (again {calls} {v} {left} {s} {number} {entries} {taken} warn g x e less) =
+offered {w} {bytes} (again {calls} {v} {left} {s} {number} {entries} {taken} warn g x e less) =
     let f = offered x in
     let none = was_accepted (a_record left warn) v s number entries taken e in
     let o = record_accepted_lem v.state v.group (length left) none in

@@ -9,5 +9,5 @@ block_kept_spec =
     tie.close
     (tie.spec
     (λ c κs. search rules)
-    (λ c. rw (fails c.before.is-length.ensures c.if1.true))
-    (λ c. rw (holds c.before.is-length.ensures c.if1.false)))
+    (λ c. rw (fails c.before.is_length.ensures c.if-not-is_length.true))
+    (λ c. rw (holds c.before.is_length.ensures c.if-not-is_length.false)))

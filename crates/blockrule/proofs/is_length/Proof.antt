@@ -48,7 +48,7 @@ unfolding meaning_of
 is_length_spec =
     tie.close
     (tie.spec
-    (λ c. rw c.if1.true)
-    (λ c. rw c.if2.true)
-    (λ c. rw c.if3.true)
-    (λ c. rest _ c.before.before.if1.false c.before.if2.false c.if3.false))
+    (λ c. rw c.if-flag-eq1.true)
+    (λ c. rw c.if-flag-eq9.true)
+    (λ c. rw c.if-flag-eq99.true)
+    (λ c. rest _ c.before.before.if-flag-eq1.false c.before.if-flag-eq9.false c.if-flag-eq99.false))

@@ -7,15 +7,15 @@ use Rattle.c_loader.proofs.Laws.{alert_read}
 use Rattle.c_loader.proofs.alert_read.Statement.{statement}
 use Rattle.c_loader.proofs.alert_read.Tie as tie
 
-by_length : tie.Need-returns
+by_length : tie.Need-returns-then-answer-ne-ANSWER_LENGTH
 unfolding dds_alert_read
-by_length c = stopped _ _ _ _ (ne_eqb _ _ c.if1.true)
+by_length c = stopped _ _ _ _ (ne_eqb _ _ c.if-answer-ne-ANSWER_LENGTH.true)
 
-answers : tie.Need-returns-2
+answers : tie.Need-returns
 answers c =
     let t = c.before.before in
     let d = t.before.before.before in
-    alert_read _ (eq-eqb _ _ d.before.if1.false) _ d.read.ensures t.before.alert-told.ensures t.tell.ensures
+    alert_read _ (eq-eqb _ _ d.before.if-answer-ne-ANSWER_LENGTH.false) _ d.read-done.ensures t.before.alert_told.ensures t.tell.ensures
 
 pub alert_read_spec : {M : Type 1} → statement M
 alert_read_spec =

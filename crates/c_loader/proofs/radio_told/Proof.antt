@@ -10,6 +10,6 @@ radio_told_spec =
     (λ c. search rules)
     (λ c. search rules)
     (λ c. search rules)
-    (λ c. rw c.before.done.given.1)
+    (λ c. rw c.in-Found.is)
     (λ c. search rules)
-    (λ c. rw c.before.done2.given.1))
+    (λ c. rw c.in-Refused.is))

@@ -7,15 +7,15 @@ use Rattle.c_loader.proofs.Laws.{volume_made_lem}
 use Rattle.c_loader.proofs.volume_make.Statement.{statement}
 use Rattle.c_loader.proofs.volume_make.Tie as tie
 
-by_length : tie.Need-returns
+by_length : tie.Need-returns-then-answer-ne-ANSWER_LENGTH
 unfolding dds_volume_make
-by_length c = stopped _ _ _ _ (ne_eqb _ _ c.if1.true)
+by_length c = stopped _ _ _ _ (ne_eqb _ _ c.if-answer-ne-ANSWER_LENGTH.true)
 
-answers : tie.Need-returns-2
+answers : tie.Need-returns
 answers c =
     let t = c.before.before in
     let d = t.before.before.before.before.before in
-    volume_made_lem _ (eq-eqb _ _ d.before.before.if1.false) _ _ d.make.ensures t.before.volume-told.ensures t.tell.ensures
+    volume_made_lem _ (eq-eqb _ _ d.before.before.if-answer-ne-ANSWER_LENGTH.false) _ _ d.make-done.ensures t.before.volume_told.ensures t.tell.ensures
 
 pub volume_make_spec : {M : Type 1} → statement M
 volume_make_spec =

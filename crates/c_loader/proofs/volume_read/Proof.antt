@@ -7,15 +7,15 @@ use Rattle.c_loader.proofs.Laws.{volume_read}
 use Rattle.c_loader.proofs.volume_read.Statement.{statement}
 use Rattle.c_loader.proofs.volume_read.Tie as tie
 
-by_length : tie.Need-returns
+by_length : tie.Need-returns-then-answer-ne-ANSWER_LENGTH
 unfolding dds_volume_read
-by_length c = stopped _ _ _ _ (ne_eqb _ _ c.if1.true)
+by_length c = stopped _ _ _ _ (ne_eqb _ _ c.if-answer-ne-ANSWER_LENGTH.true)
 
-answers : tie.Need-returns-2
+answers : tie.Need-returns
 answers c =
     let t = c.before.before in
     let d = t.before.before.before.before.before in
-    volume_read _ (eq-eqb _ _ d.before.before.if1.false) _ _ d.read.ensures t.before.volume-told.ensures t.tell.ensures
+    volume_read _ (eq-eqb _ _ d.before.before.if-answer-ne-ANSWER_LENGTH.false) _ _ d.read-done.ensures t.before.volume_told.ensures t.tell.ensures
 
 pub volume_read_spec : {M : Type 1} → statement M
 volume_read_spec =

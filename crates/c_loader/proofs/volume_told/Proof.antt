@@ -12,4 +12,4 @@ volume_told_spec =
     (λ c. search rules)
     (λ c. search rules)
     (λ c. search rules)
-    (λ c. rw c.before.done.given.1))
+    (λ c. rw c.in-Refused.is))

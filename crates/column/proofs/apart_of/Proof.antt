@@ -16,9 +16,9 @@ law i j p q r e f h = rw (← e, ← f) h
 returns : tie.Need-returns
 returns c =
     let a = c.before.before.before.args in (
-      law a.i a.j c.before.before.power-of.result c.before.power-of2.result c.logarithm-of.result
-          c.before.before.power-of.ensures c.before.power-of2.ensures c.logarithm-of.ensures.0,
-      c.logarithm-of.ensures.1,
+      law a.i a.j c.before.before.power_of.result c.before.power_of-2.result c.logarithm_of.result
+          c.before.before.power_of.ensures c.before.power_of-2.ensures c.logarithm_of.ensures.0,
+      c.logarithm_of.ensures.1,
     )
 
 pub apart_of_spec : {M : Type 1} → statement M

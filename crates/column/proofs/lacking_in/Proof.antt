@@ -15,8 +15,8 @@ law i j k s t p r e f q = rw (← e, ← f) q
 returns : tie.Need-returns
 returns c =
     let a = c.before.before.before.args in
-    law a.i a.j a.k a.s.first a.s.second c.before.before.times.result c.times2.result
-    c.before.before.before.requires.4 c.before.before.times.ensures c.times2.ensures
+    law a.i a.j a.k a.s.first a.s.second c.before.before.times.result c.times-2.result
+    c.before.before.before.requires.4 c.before.before.times.ensures c.times-2.ensures
 
 pub lacking_in_spec : {M : Type 1} → statement M
 lacking_in_spec =

@@ -5,10 +5,10 @@ use Rattle.column.proofs.Steps.{place_in_lem}
 use Rattle.column.proofs.place.Statement.{statement}
 use Rattle.column.proofs.place.Tie as tie
 
-mul-result : tie.Need-overflow-mul-result
+mul-result : tie.Need-overflow_mul-result
 mul-result c = omega (arith, place_in_lem c.args.n c.args.i c.args.c c.requires.0 c.requires.1)
 
-add-result : tie.Need-overflow-add-result
+add-result : tie.Need-overflow_add-result
 add-result c = omega (arith, place_in_lem c.args.n c.args.i c.args.c c.requires.0 c.requires.1)
 
 returns : tie.Need-returns

@@ -21,46 +21,46 @@ record Held (group : List ℕ) (size entries : ℕ) (first here : Cursor) (left 
   bounded : Bounded (entry_offset size entries) here
   same : scan_left size entries group left here ≡ scan size (entry_offset size entries) (entries_below group (size - 32) entries) 1 first
 
-abbrev invariant-loop : tie.invariant-loop
-invariant-loop group size entries limit left₀ here₀ left here = Held group size entries here₀ here left
+abbrev invariant-loop-left : tie.invariant-loop-left
+invariant-loop-left group size entries limit left₀ here₀ left here = Held group size entries here₀ here left
 
-abbrev decreases-loop : tie.decreases-loop
-decreases-loop group size entries limit left₀ here₀ left here = left
+abbrev decreases-loop-left : tie.decreases-loop-left
+decreases-loop-left group size entries limit left₀ here₀ left here = left
 
 -- The scan from an entry on, by the number of its fault.
-from : (c : tie.After-entry-fault invariant-loop decreases-loop) (rest : ScanEnd)
+from : (c : tie.After-entry_fault-fault invariant-loop-left decreases-loop-left) (rest : ScanEnd)
     → (let l = c.before.before.before.before.before.before in let a = l.before.before.args in
-    rest ≡ onward c.entry-fault.result (a.entries + 1 - l.loop.left) l.loop.here (scan_left a.size a.entries a.group.now (l.loop.left - 1) (after l.loop.here c.before.before.before.meaning-of.result c.before.before.before.before.entry_at.result.count)))
+    rest ≡ onward c.entry_fault-fault.result (a.entries + 1 - l.loop-left.left) l.loop-left.here (scan_left a.size a.entries a.group.now (l.loop-left.left - 1) (after l.loop-left.here c.before.before.before.meaning_of-meaning.result c.before.before.before.before.entry_at-entry.result.count)))
     → (let a = c.before.before.before.before.before.before.before.before.args in rest ≡ scan a.size (entry_offset a.size a.entries) (entries_below a.group.now (a.size - 32) a.entries) 1 a.opening)
 from c rest e =
     let l = c.before.before.before.before.before.before in
-    let x = c.before.before.before.before.entry_at in
-    let m = c.before.before.before.meaning-of.ensures in
+    let x = c.before.before.before.before.entry_at-entry in
+    let m = c.before.before.before.meaning_of-meaning.ensures in
     (rw m at e)
-    ∙ sym (left_turn _ _ _ l.loop.left _ x.result c.entry-fault.result (omega (arith, c.before.before.before.before.before.if1.false)) l.loop.invariant.most x.ensures.0 (rw m at c.entry-fault.ensures))
-    ∙ l.loop.invariant.same
+    ∙ sym (left_turn _ _ _ l.loop-left.left _ x.result c.entry_fault-fault.result (omega (arith, c.before.before.before.before.before.if-left-eq0.false)) l.loop-left.invariant.most x.ensures.0 (rw m at c.entry_fault-fault.ensures))
+    ∙ l.loop-left.invariant.same
 
-loop-again : tie.Need-loop-preserved invariant-loop decreases-loop
+loop-again : tie.Need-loop-left-preserved invariant-loop-left decreases-loop-left
 loop-again c =
     let n = c.before.before in
     let l = n.before.before.before.before.before.before in
     record {
-      most = omega (arith, l.loop.invariant.most);
-      bounded = rw c.advance.ensures (stays _ _ _ _ _ _ l.loop.invariant.bounded (sym n.entry-fault.ensures ∙ c.before.if2.false));
-      same = from n _ (ap (scan_left _ _ _ _) c.advance.ensures ∙ goes_on _ _ _ _ c.before.if2.false);
+      most = omega (arith, l.loop-left.invariant.most);
+      bounded = rw c.advance-here.ensures (stays _ _ _ _ _ _ l.loop-left.invariant.bounded (sym n.entry_fault-fault.ensures ∙ c.before.if-fault-ne0.false));
+      same = from n _ (ap (scan_left _ _ _ _) c.advance-here.ensures ∙ goes_on _ _ _ _ c.before.if-fault-ne0.false);
     }
 
-refused : tie.Need-returns-2 invariant-loop decreases-loop
+refused : tie.Need-returns-then-fault-ne0 invariant-loop-left decreases-loop-left
 refused c =
     let l = c.before.before.before.before.before.before.before in
-    from c.before _ (stops _ _ _ _ _ (omega (arith, c.before.before.before.before.before.before.if1.false, l.loop.invariant.most)) c.if2.true)
+    from c.before _ (stops _ _ _ _ _ (omega (arith, c.before.before.before.before.before.before.if-left-eq0.false, l.loop-left.invariant.most)) c.if-fault-ne0.true)
 
 pub scan_plainly_spec : {M : Type 1} → statement M
 scan_plainly_spec =
     tie.close
     (tie.spec
-    invariant-loop
-    decreases-loop
+    invariant-loop-left
+    decreases-loop-left
     (λ c. omega arith)
     (λ c. omega arith)
     (λ c. omega arith)
@@ -72,12 +72,12 @@ scan_plainly_spec =
     (λ c κs. omega arith)
     (λ c κs. search rules)
     (λ c κs. search rules)
-    (λ c κs. (c.before.follows.ensures, (c.before.before.before.before.before.loop.invariant.bounded, (omega arith, (omega arith, omega (arith, c.before.before.before.entry_at.ensures.1))))))
+    (λ c κs. (c.before.follows-follows.ensures, (c.before.before.before.before.before.loop-left.invariant.bounded, (omega arith, (omega arith, omega (arith, c.before.before.before.entry_at-entry.ensures.1))))))
     (λ c. omega arith)
     (λ c κs.
-    let b = c.before.before.before.before.before.before.before.loop.invariant.bounded in
-    (b.sum, (omega (arith, b.reached), omega (arith, c.before.before.before.before.before.entry_at.ensures.1))))
+    let b = c.before.before.before.before.before.before.before.loop-left.invariant.bounded in
+    (b.sum, (omega (arith, b.reached), omega (arith, c.before.before.before.before.before.entry_at-entry.ensures.1))))
     (λ c. omega arith)
     loop-again
-    (λ c. none_left _ _ _ _ _ c.if1.true ∙ c.before.loop.invariant.same)
+    (λ c. none_left _ _ _ _ _ c.if-left-eq0.true ∙ c.before.loop-left.invariant.same)
     refused)

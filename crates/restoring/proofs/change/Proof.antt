@@ -7,7 +7,7 @@ use Rattle.restoring.proofs.change.Tie as tie
 returns : tie.Need-returns
 returns c =
     let a = c.before.before.before.args in
-    stored a.rows.now a.n a.i a.c a.x c.before.place.result c.before.place.ensures.0
+    stored a.rows.now a.n a.i a.c a.x c.before.place-at.result c.before.place-at.ensures.0
 
 pub change_spec : {M : Type 1} → statement M
 change_spec =

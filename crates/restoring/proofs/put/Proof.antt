@@ -9,7 +9,7 @@ use Rattle.restoring.proofs.put.Tie as tie
 returns : tie.Need-returns
 returns c =
     let a = c.before.before.args in
-    ap (λ (p : ℕ). set a.rows.now p a.x) c.place.ensures.0
+    ap (λ (p : ℕ). set a.rows.now p a.x) c.place-at.ensures.0
 
 pub put_spec : {M : Type 1} → statement M
 put_spec =

@@ -27,37 +27,37 @@ onto n h = omega arith
 abbrev form : List ℕ → List ℕ
 form vs = vs
 
-abbrev invariant-loop : tie.invariant-loop
-invariant-loop group size entries rows₀ top₀ left₀ reached₀ i₀ rows top left reached i =
+abbrev invariant-loop-left : tie.invariant-loop-left
+invariant-loop-left group size entries rows₀ top₀ left₀ reached₀ i₀ rows top left reached i =
     (Counts size entries (length rows) top left i) × Filled form group rows₀ size entries rows top left reached i
 
-abbrev decreases-loop : tie.decreases-loop
-decreases-loop group size entries rows₀ top₀ left₀ reached₀ i₀ rows top left reached i = left
+abbrev decreases-loop-left : tie.decreases-loop-left
+decreases-loop-left group size entries rows₀ top₀ left₀ reached₀ i₀ rows top left reached i = left
 
 -- Three numbers stored, and what is stored after them.
 three : (rows : List ℕ) (i a b c : ℕ) (more : List ℕ) → put (set (set (set rows i a) (i + 1) b) (i + 2) c) (i + 3) more ≡ put rows i (a ∷ b ∷ c ∷ more)
 three rows i a b c more = ap (λ (l : List ℕ). put l (i + 3) more) (put_three rows i a b c) ∙ put_put rows i (a ∷ b ∷ c ∷ []) more
 
-reach : (c : tie.After-entry-at invariant-loop decreases-loop) → (c.before.before.loop.reached ≤ entry_offset c.before.before.before.before.before.args.size c.before.before.before.before.before.args.entries) × Meant c.entry_at.result.flag
+reach : (c : tie.After-entry_at-entry invariant-loop-left decreases-loop-left) → (c.before.before.loop-left.reached ≤ entry_offset c.before.before.before.before.before.args.size c.before.before.before.before.before.args.entries) × Meant c.entry_at-entry.result.flag
 reach c =
-    let l = c.before.before.loop in
-    filled_reach _ _ _ _ l.rows l.top l.left l.reached l.i c.entry_at.result c.before.loop-test.true c.entry_at.ensures.0 l.invariant.1
+    let l = c.before.before.loop-left in
+    filled_reach _ _ _ _ l.rows l.top l.left l.reached l.i c.entry_at-entry.result c.before.loop-left-test.true c.entry_at-entry.ensures.0 l.invariant.1
 
-loop-again : tie.Need-loop-preserved invariant-loop decreases-loop
+loop-again : tie.Need-loop-left-preserved invariant-loop-left decreases-loop-left
 loop-again c =
-    let l = c.before.before.before.before.loop in
-    let t = c.before.before.before.loop-test.true in
-    let x = c.before.before.entry_at in (
+    let l = c.before.before.before.before.loop-left in
+    let t = c.before.before.before.loop-left-test.true in
+    let x = c.before.before.entry_at-entry in (
       simp length-set (onto l.invariant.0 t),
-      filled_turn form 3 _ _ _ _ l.rows _ l.top l.left l.reached l.i x.result _ _ t x.ensures.0 (row_kind_lem _ _ (reach c.before.before).1 c.before.number_by_bits.ensures) c.reached-by.ensures (simp length-set) (λ more. three l.rows l.i _ _ _ more) l.invariant.1,
+      filled_turn form 3 _ _ _ _ l.rows _ l.top l.left l.reached l.i x.result _ _ t x.ensures.0 (row_kind_lem _ _ (reach c.before.before).1 c.before.number_by_bits.ensures) c.reached_by-reached.ensures (simp length-set) (λ more. three l.rows l.i _ _ _ more) l.invariant.1,
     )
 
 pub fill_spec : {M : Type 1} → statement M
 fill_spec =
     tie.close
     (tie.spec
-    invariant-loop
-    decreases-loop
+    invariant-loop-left
+    decreases-loop-left
     (λ c. omega arith)
     (λ c. omega arith)
     (λ c. (omega arith, record { long = refl; kept = c.before.before.requires.1.0; same = refl }))
@@ -75,9 +75,9 @@ fill_spec =
     (λ c. omega arith)
     (λ c. omega arith)
     (λ c. simp length-set (omega arith))
-    (λ c κs. ((reach c.before).1, (omega (arith, (reach c.before).0), omega (arith, c.before.entry_at.ensures.1))))
+    (λ c κs. ((reach c.before).1, (omega (arith, (reach c.before).0), omega (arith, c.before.entry_at-entry.ensures.1))))
     (λ c. omega arith)
     (λ c. omega arith)
     loop-again
-    (λ c. c.before.loop.invariant.1.long)
-    (λ c. let l = c.before.loop in filled_done form _ _ _ _ l.rows l.top l.left l.reached l.i refl c.loop-test.false l.invariant.1))
+    (λ c. c.before.loop-left.invariant.1.long)
+    (λ c. let l = c.before.loop-left in filled_done form _ _ _ _ l.rows l.top l.left l.reached l.i refl c.loop-left-test.false l.invariant.1))

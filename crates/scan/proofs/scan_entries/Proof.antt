@@ -23,64 +23,64 @@ record Held (group : List ℕ) (size entries : ℕ) (first here : Cursor) (left 
   bounded : Bounded (entry_offset size entries) here
   same : scan_left size entries group left here ≡ scan size (entry_offset size entries) (entries_below group (size - 32) entries) 1 first
 
-abbrev invariant-loop : tie.invariant-loop
-invariant-loop group size entries limit left₀ here₀ left here = Held group size entries here₀ here left
+abbrev invariant-loop-here : tie.invariant-loop-here
+invariant-loop-here group size entries limit left₀ here₀ left here = Held group size entries here₀ here left
 
-abbrev decreases-loop : tie.decreases-loop
-decreases-loop group size entries limit left₀ here₀ left here = left
+abbrev decreases-loop-here : tie.decreases-loop-here
+decreases-loop-here group size entries limit left₀ here₀ left here = left
 
 -- After a stretch the scan gives what it gave before it.
-passed : (c : tie.After-pass invariant-loop decreases-loop)
-    → scan_left c.before.before.before.args.size c.before.before.before.args.entries c.before.before.before.args.group.now c.pass.result.left (moved_to c.before.loop.here c.pass.result.sum c.pass.result.reached)
+passed : (c : tie.After-pass-stretch invariant-loop-here decreases-loop-here)
+    → scan_left c.before.before.before.args.size c.before.before.before.args.entries c.before.before.before.args.group.now c.pass-stretch.result.left (moved_to c.before.loop-here.here c.pass-stretch.result.sum c.pass-stretch.result.reached)
     ≡ scan c.before.before.before.args.size (entry_offset c.before.before.before.args.size c.before.before.before.args.entries) (entries_below c.before.before.before.args.group.now (c.before.before.before.args.size - 32) c.before.before.before.args.entries) 1 c.before.before.before.args.opening
-passed c = c.pass.ensures.1.1 ∙ c.before.loop.invariant.same
+passed c = c.pass-stretch.ensures.1.1 ∙ c.before.loop-here.invariant.same
 
 -- The scan from an entry on, by the number of its fault.
-from : (c : tie.After-entry-fault invariant-loop decreases-loop) (rest : ScanEnd)
-    → (let p = c.before.before.before.before.before.before.before in let a = p.before.before.before.args in let h = moved_to p.before.loop.here p.pass.result.sum p.pass.result.reached in
-    rest ≡ onward c.entry-fault.result (a.entries + 1 - p.pass.result.left) h (scan_left a.size a.entries a.group.now (p.pass.result.left - 1) (after h c.before.before.before.meaning-of.result c.before.before.before.before.entry_at.result.count)))
+from : (c : tie.After-entry_fault-fault invariant-loop-here decreases-loop-here) (rest : ScanEnd)
+    → (let p = c.before.before.before.before.before.before.before in let a = p.before.before.before.args in let h = moved_to p.before.loop-here.here p.pass-stretch.result.sum p.pass-stretch.result.reached in
+    rest ≡ onward c.entry_fault-fault.result (a.entries + 1 - p.pass-stretch.result.left) h (scan_left a.size a.entries a.group.now (p.pass-stretch.result.left - 1) (after h c.before.before.before.meaning_of-meaning.result c.before.before.before.before.entry_at-entry.result.count)))
     → (let a = c.before.before.before.before.before.before.before.before.before.before.args in rest ≡ scan a.size (entry_offset a.size a.entries) (entries_below a.group.now (a.size - 32) a.entries) 1 a.opening)
 from c rest e =
     let p = c.before.before.before.before.before.before.before in
-    let x = c.before.before.before.before.entry_at in
-    let m = c.before.before.before.meaning-of.ensures in
+    let x = c.before.before.before.before.entry_at-entry in
+    let m = c.before.before.before.meaning_of-meaning.ensures in
     (rw m at e)
-    ∙ sym (left_turn _ _ _ p.pass.result.left _ x.result c.entry-fault.result p.pass.ensures.0.0 (omega (arith, p.pass.ensures.0.1, p.before.loop.invariant.most)) x.ensures.0 (rw m at c.entry-fault.ensures))
+    ∙ sym (left_turn _ _ _ p.pass-stretch.result.left _ x.result c.entry_fault-fault.result p.pass-stretch.ensures.0.0 (omega (arith, p.pass-stretch.ensures.0.1, p.before.loop-here.invariant.most)) x.ensures.0 (rw m at c.entry_fault-fault.ensures))
     ∙ passed p
 
-loop-again : tie.Need-loop-preserved invariant-loop decreases-loop
+loop-again : tie.Need-loop-here-preserved invariant-loop-here decreases-loop-here
 loop-again c =
     let n = c.before.before.before in
     let p = n.before.before.before.before.before.before.before in
     record {
-      some = omega (arith, c.if3.false);
-      most = omega (arith, p.pass.ensures.0.1, p.before.loop.invariant.most);
-      bounded = rw c.before.advance.ensures (stays _ _ _ _ _ _ p.pass.ensures.1.0 (sym n.entry-fault.ensures ∙ c.before.before.if2.false));
-      same = from n _ (ap (scan_left _ _ _ _) c.before.advance.ensures ∙ goes_on _ _ _ _ c.before.before.if2.false);
+      some = omega (arith, c.if-left-eq0.false);
+      most = omega (arith, p.pass-stretch.ensures.0.1, p.before.loop-here.invariant.most);
+      bounded = rw c.before.advance-here.ensures (stays _ _ _ _ _ _ p.pass-stretch.ensures.1.0 (sym n.entry_fault-fault.ensures ∙ c.before.before.if-fault-ne0.false));
+      same = from n _ (ap (scan_left _ _ _ _) c.before.advance-here.ensures ∙ goes_on _ _ _ _ c.before.before.if-fault-ne0.false);
     }
 
-refused : tie.Need-returns-2 invariant-loop decreases-loop
+refused : tie.Need-returns-then-fault-ne0 invariant-loop-here decreases-loop-here
 refused c =
     let p = c.before.before.before.before.before.before.before.before in
-    from c.before _ (stops _ _ _ _ _ (omega (arith, p.pass.ensures.0, p.before.loop.invariant.most)) c.if2.true)
+    from c.before _ (stops _ _ _ _ _ (omega (arith, p.pass-stretch.ensures.0, p.before.loop-here.invariant.most)) c.if-fault-ne0.true)
 
-ends : tie.Need-returns-3 invariant-loop decreases-loop
+ends : tie.Need-returns-then-left-eq0 invariant-loop-here decreases-loop-here
 ends c =
     let n = c.before.before.before in
-    from n _ (ap Reached c.before.advance.ensures ∙ none_left _ _ _ _ _ c.if3.true ∙ goes_on _ _ _ _ c.before.before.if2.false)
+    from n _ (ap Reached c.before.advance-here.ensures ∙ none_left _ _ _ _ _ c.if-left-eq0.true ∙ goes_on _ _ _ _ c.before.before.if-fault-ne0.false)
 
 pub scan_entries_spec : {M : Type 1} → statement M
 scan_entries_spec =
     tie.close
     (tie.spec
-    invariant-loop
-    decreases-loop
+    invariant-loop-here
+    decreases-loop-here
     (λ c. omega arith)
     (λ c. omega arith)
     (λ c. omega arith)
     (λ c. record { some = omega arith; most = omega arith; bounded = c.before.requires.1; same = all_left _ _ _ _ (omega arith) })
-    (λ c κs. ((c.before.before.requires.0, c.loop.invariant.bounded), (c.loop.invariant.some, c.loop.invariant.most)))
-    (λ c κs. (c.before.before.before.requires.0, c.pass.ensures.1.0))
+    (λ c κs. ((c.before.before.requires.0, c.loop-here.invariant.bounded), (c.loop-here.invariant.some, c.loop-here.invariant.most)))
+    (λ c κs. (c.before.before.before.requires.0, c.pass-stretch.ensures.1.0))
     (λ c. omega arith)
     (λ c. omega arith)
     (λ c. omega arith)
@@ -88,13 +88,13 @@ scan_entries_spec =
     (λ c κs. omega arith)
     (λ c κs. search rules)
     (λ c κs. search rules)
-    (λ c κs. (c.before.follows.ensures, (c.before.before.before.before.before.before.pass.ensures.1.0, (omega arith, (omega arith, omega (arith, c.before.before.before.entry_at.ensures.1))))))
+    (λ c κs. (c.before.follows-follows.ensures, (c.before.before.before.before.before.before.pass-stretch.ensures.1.0, (omega arith, (omega arith, omega (arith, c.before.before.before.entry_at-entry.ensures.1))))))
     (λ c. omega arith)
     (λ c κs.
-    let b = c.before.before.before.before.before.before.before.before.pass.ensures.1.0 in
-    (b.sum, (omega (arith, b.reached), omega (arith, c.before.before.before.before.before.entry_at.ensures.1))))
+    let b = c.before.before.before.before.before.before.before.before.pass-stretch.ensures.1.0 in
+    (b.sum, (omega (arith, b.reached), omega (arith, c.before.before.before.before.before.entry_at-entry.ensures.1))))
     (λ c. omega arith)
     loop-again
-    (λ c. c.before.ends.ensures c.if1.true ∙ passed c.before.before)
+    (λ c. c.before.ends.ensures c.if-ends.true ∙ passed c.before.before)
     refused
     ends)

@@ -11,6 +11,6 @@ empty_kept_spec =
     tie.close
     (tie.spec
     (λ c κs. search rules)
-    (λ c. rw (sym c.before.is_free.ensures ∙ c.if1.true))
+    (λ c. rw (sym c.before.is_free.ensures ∙ c.if-is_free.true))
     (λ c κs. search rules)
-    (λ c. rw (sym c.before.before.is_free.ensures ∙ c.before.if1.false) c.is-empty.ensures))
+    (λ c. rw (sym c.before.before.is_free.ensures ∙ c.before.if-is_free.false) c.is_empty.ensures))

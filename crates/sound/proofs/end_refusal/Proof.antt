@@ -7,23 +7,23 @@ use Rattle.sound.proofs.end_refusal.Statement.{statement}
 use Rattle.sound.proofs.end_refusal.Tie as tie
 
 -- What was met on the way to each place.
-length_met : (c : tie.Else2) → LengthMet c.before.before.before.before.args.w c.before.before.before.before.args.len
-length_met c = (holds c.before.before.before.is_sound.ensures c.before.before.if1.false, c.if2.false)
+length_met : (c : tie.Else-len-w) → LengthMet c.before.before.before.before.args.w c.before.before.before.before.args.len
+length_met c = (holds c.before.before.before.is_sound.ensures c.before.before.if-not-is_sound.false, c.if-len-w.false)
 
-shut_met : (c : tie.Else3) → ShutMet c.before.before.before.before.before.before.args.w c.before.before.before.before.before.before.args.len
-shut_met c = (length_met c.before.before, sym c.before.is_inside.ensures ∙ c.if3.false)
+shut_met : (c : tie.Else-is_inside) → ShutMet c.before.before.before.before.before.before.args.w c.before.before.before.before.before.before.args.len
+shut_met c = (length_met c.before.before, sym c.before.is_inside.ensures ∙ c.if-is_inside.false)
 
 pub end_refusal_spec : {M : Type 1} → statement M
 end_refusal_spec =
     tie.close
     (tie.spec
     (λ c κs. search rules)
-    (λ c. end_unsound _ _ (fails c.before.is_sound.ensures c.if1.true))
+    (λ c. end_unsound _ _ (fails c.before.is_sound.ensures c.if-not-is_sound.true))
     (λ c. search rules)
-    (λ c. end_length _ _ (holds c.before.before.before.is_sound.ensures c.before.before.if1.false) c.if2.true)
+    (λ c. end_length _ _ (holds c.before.before.before.is_sound.ensures c.before.before.if-not-is_sound.false) c.if-len-w.true)
     (λ c κs. search rules)
-    (λ c. end_open _ _ (length_met c.before.before) (sym c.before.is_inside.ensures ∙ c.if3.true))
+    (λ c. end_open _ _ (length_met c.before.before) (sym c.before.is_inside.ensures ∙ c.if-is_inside.true))
     (λ c κs. search rules)
-    (λ c. end_unowed _ _ (shut_met c.before.before) (fails c.before.is-owed.ensures c.if4.true))
-    (λ c. end_spent _ _ (shut_met c.before.before.before.before) (holds c.before.before.before.is-owed.ensures c.before.before.if4.false) c.if5.true)
-    (λ c. end_remains _ _ (shut_met c.before.before.before.before) (holds c.before.before.before.is-owed.ensures c.before.before.if4.false) c.if5.false))
+    (λ c. end_unowed _ _ (shut_met c.before.before) (fails c.before.is_owed.ensures c.if-not-is_owed.true))
+    (λ c. end_spent _ _ (shut_met c.before.before.before.before) (holds c.before.before.before.is_owed.ensures c.before.before.if-not-is_owed.false) c.if-w-gt-LAST_NUMBER.true)
+    (λ c. end_remains _ _ (shut_met c.before.before.before.before) (holds c.before.before.before.is_owed.ensures c.before.before.if-not-is_owed.false) c.if-w-gt-LAST_NUMBER.false))

@@ -10,5 +10,5 @@ ends_empty_spec =
     tie.close
     (tie.spec
     (λ c κs. search rules)
-    (λ c. search (sym c.before.is-owed.ensures ∙ c.if1.true, tests))
-    (λ c. search (sym c.before.is-owed.ensures ∙ c.if1.false, tests)))
+    (λ c. search (sym c.before.is_owed.ensures ∙ c.if-is_owed.true, tests))
+    (λ c. search (sym c.before.is_owed.ensures ∙ c.if-is_owed.false, tests)))

@@ -12,10 +12,10 @@ rest_kept_spec =
     tie.close
     (tie.spec
     (λ c κs. search rules)
-    (λ c. rw (fails c.before.before.is_inside.ensures c.before.if1.true))
-    (λ c. rw (holds c.before.before.before.is_inside.ensures c.before.before.if1.false, lt-leb _ _ c.if2.true))
+    (λ c. rw (fails c.before.before.is_inside.ensures c.before.if-not-is_inside.true))
+    (λ c. rw (holds c.before.before.before.is_inside.ensures c.before.before.if-not-is_inside.false, lt-leb _ _ c.if-w-lt1.true))
     (λ c. search rules)
     (λ c. search rules)
     (λ c. search rules)
     (λ c. search rules)
-    (λ c. rw (holds c.before.before.before.before.before.is_inside.ensures c.before.before.before.before.if1.false, le-leb _ _ c.before.before.if2.false)))
+    (λ c. rw (holds c.before.before.before.before.before.is_inside.ensures c.before.before.before.before.if-not-is_inside.false, le-leb _ _ c.before.before.if-w-lt1.false)))

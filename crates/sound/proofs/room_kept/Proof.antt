@@ -11,7 +11,7 @@ room_kept_spec =
     tie.close
     (tie.spec
     (λ c κs. search rules)
-    (λ c. rw (fails c.before.is_free.ensures c.if1.true))
+    (λ c. rw (fails c.before.is_free.ensures c.if-not-is_free.true))
     (λ c. search rules)
     (λ c. search rules)
     (λ c. search rules)
@@ -21,4 +21,4 @@ room_kept_spec =
     (λ c. search rules)
     (λ c. search rules)
     (λ c. search rules)
-    (λ c. rw (holds c.before.before.before.before.is_free.ensures c.before.before.before.if1.false)))
+    (λ c. rw (holds c.before.before.before.before.is_free.ensures c.before.before.before.if-not-is_free.false)))

@@ -12,5 +12,5 @@ spent_kept_spec =
     (tie.spec
     (λ c. search rules)
     (λ c κs. search rules)
-    (λ c. rw (eq-eqb _ _ c.before.if1.true) c.is-empty.ensures)
-    (λ c. rw (ne_eqb _ _ c.if1.false)))
+    (λ c. rw (eq-eqb _ _ c.before.if-w.true) c.is_empty.ensures)
+    (λ c. rw (ne_eqb _ _ c.if-w.false)))

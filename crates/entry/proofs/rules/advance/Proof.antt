@@ -3,9 +3,9 @@ use borrow.Author.Rules.{rules}
 use Rattle.entry.proofs.rules.advance.Statement.{statement}
 use Rattle.entry.proofs.rules.advance.Tie as tie
 
-returns : tie.Need-returns
+returns : tie.Need-returns-in-Known
 returns c =
-    rw (c.before.before.before.before.meaning.given.1, c.before.before.stand-after.ensures, c.before.sum-after.ensures, c.reached-after.ensures)
+    rw (c.in-Known.is, c.stand_after.ensures, c.sum_after.ensures, c.reached_after.ensures)
 
 pub advance_spec : {M : Type 1} → statement M
 advance_spec =

@@ -4,12 +4,12 @@ use Rattle.entry.specs.Rules.{entry_fault}
 use Rattle.entry.proofs.rules.entry_fault.Statement.{statement}
 use Rattle.entry.proofs.rules.entry_fault.Tie as tie
 
-known : tie.Need-returns
-known c = rw c.before.before.meaning.given.1 c.known-fault.ensures
+known : tie.Need-returns-in-Known
+known c = rw c.in-Known.is c.known_fault.ensures
 
-unknown : tie.Need-returns-2
+unknown : tie.Need-returns-in-Unknown
 unfolding entry_fault
-unknown c = rw c.enum_told.given.1
+unknown c = rw c.in-Unknown.is
 
 pub entry_fault_spec : {M : Type 1} → statement M
 entry_fault_spec = tie.close (tie.spec (λ c. search rules) (λ c κs. search rules) (λ c. search rules) known unknown)

@@ -11,8 +11,8 @@ follow_kept_spec =
     tie.close
     (tie.spec
     (λ c κs. c.requires)
-    (λ c. rw (fails c.before.may-follow.ensures c.if1.true))
+    (λ c. rw (fails c.before.may_follow.ensures c.if-not-may_follow.true))
     (λ c κs. search rules)
-    (λ c. rw (holds c.before.before.before.may-follow.ensures c.before.before.if1.false, c.before.if2.true) c.is_skip.ensures)
+    (λ c. rw (holds c.before.before.before.may_follow.ensures c.before.before.if-not-may_follow.false, c.before.if-last.true) c.is_skip.ensures)
     (λ c κs. search rules)
-    (λ c. rw (holds c.before.before.before.may-follow.ensures c.before.before.if1.false, c.before.if2.false) (ap not c.is-skip2.ensures)))
+    (λ c. rw (holds c.before.before.before.may_follow.ensures c.before.before.if-not-may_follow.false, c.before.if-last.false) (ap not c.is_skip-2.ensures)))

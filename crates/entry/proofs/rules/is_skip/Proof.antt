@@ -12,4 +12,4 @@ is_skip_spec =
     tie.close
     (tie.spec
     (λ c κs. search rules)
-    (λ c. ap (λ (n : ℕ). eqb n 7) c.kind-number.ensures ∙ sym (or_false _)))
+    (λ c. ap (λ (n : ℕ). eqb n 7) c.kind_number.ensures ∙ sym (or_false _)))

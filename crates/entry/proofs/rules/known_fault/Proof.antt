@@ -11,10 +11,10 @@ known_fault_spec =
     tie.close
     (tie.spec
     (λ c κs. search rules)
-    (λ c. dropped _ _ _ _ _ _ _ (fails c.before.b4-kept.ensures c.if1.true))
+    (λ c. dropped _ _ _ _ _ _ _ (fails c.before.b4_kept.ensures c.if-not-b4_kept.true))
     (λ c κs. c.before.before.requires.0)
-    (λ c. misplaced _ _ _ _ _ _ _ (holds c.before.before.before.b4-kept.ensures c.before.before.if1.false) (fails c.before.follow-kept.ensures c.if2.true))
+    (λ c. misplaced _ _ _ _ _ _ _ (holds c.before.before.before.b4_kept.ensures c.before.before.if-not-b4_kept.false) (fails c.before.follow_kept.ensures c.if-not-follow_kept.true))
     (λ c κs. search rules)
-    (λ c. miscounted _ _ _ _ _ _ _ (holds c.before.before.before.before.before.b4-kept.ensures c.before.before.before.before.if1.false) (holds c.before.before.before.follow-kept.ensures c.before.before.if2.false) _ c.before.count-fault.ensures c.if3.true)
+    (λ c. miscounted _ _ _ _ _ _ _ (holds c.before.before.before.before.before.b4_kept.ensures c.before.before.before.before.if-not-b4_kept.false) (holds c.before.before.before.follow_kept.ensures c.before.before.if-not-follow_kept.false) _ c.before.count_fault-fault.ensures c.if-fault-ne0.true)
     (λ c κs. search rules)
-    (λ c. c.data-fault.ensures ∙ counted _ _ _ _ _ _ _ (holds c.before.before.before.before.before.before.b4-kept.ensures c.before.before.before.before.before.if1.false) (holds c.before.before.before.before.follow-kept.ensures c.before.before.before.if2.false) (sym c.before.before.count-fault.ensures ∙ c.before.if3.false)))
+    (λ c. c.data_fault.ensures ∙ counted _ _ _ _ _ _ _ (holds c.before.before.before.before.before.before.b4_kept.ensures c.before.before.before.before.before.if-not-b4_kept.false) (holds c.before.before.before.before.follow_kept.ensures c.before.before.before.if-not-follow_kept.false) (sym c.before.before.count_fault-fault.ensures ∙ c.before.if-fault-ne0.false)))

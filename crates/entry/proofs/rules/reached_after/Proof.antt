@@ -10,5 +10,5 @@ reached_after_spec =
     (tie.spec
     (λ c κs. search rules)
     (λ c. search rules)
-    (λ c. rw (sym c.before.holds-data.ensures ∙ c.if1.true))
-    (λ c. rw (sym c.before.holds-data.ensures ∙ c.if1.false)))
+    (λ c. rw (sym c.before.holds_data.ensures ∙ c.if-holds_data.true))
+    (λ c. rw (sym c.before.holds_data.ensures ∙ c.if-holds_data.false)))

@@ -11,5 +11,5 @@ reached_by_spec =
     tie.close
     (tie.spec
     (λ c. search rules)
-    (λ c. b7_reaches _ _ _ true c.before.requires.0 (eq-eqb _ _ c.if1.true))
-    (λ c. b7_reaches _ _ _ false c.before.requires.0 (ne_eqb _ _ c.if1.false)))
+    (λ c. b7_reaches _ _ _ true c.before.requires.0 (eq-eqb _ _ c.if-flag-eq1.true))
+    (λ c. b7_reaches _ _ _ false c.before.requires.0 (ne_eqb _ _ c.if-flag-eq1.false)))

@@ -9,6 +9,6 @@ next_reason_spec =
     tie.close
     (tie.spec
     (λ c κs. search rules)
-    (λ c. rw (le-leb _ _ c.before.if1.true) c.of.ensures)
+    (λ c. rw (le-leb _ _ c.before.if-next-le-LAST_NUMBER.true) c.of.ensures)
     (λ c κs. search rules)
-    (λ c. rw (lt-leb _ _ c.before.if1.false) c.of2.ensures))
+    (λ c. rw (lt-leb _ _ c.before.if-next-le-LAST_NUMBER.false) c.of-2.ensures))

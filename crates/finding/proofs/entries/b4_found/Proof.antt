@@ -8,5 +8,5 @@ b4_found_spec =
     tie.close
     (tie.spec
     (λ c κs. search rules)
-    (λ c. rw (← c.before.b4.ensures, c.if1.true))
-    (λ c. rw (← c.before.b4.ensures, c.if1.false)))
+    (λ c. rw (← c.before.b4.ensures, c.if-b4.true))
+    (λ c. rw (← c.before.b4.ensures, c.if-b4.false)))

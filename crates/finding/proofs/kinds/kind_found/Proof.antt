@@ -11,5 +11,5 @@ kind_found_spec =
     (λ c. search rules)
     (λ c κs. search rules)
     (λ c. search rules)
-    (λ c. rw (← c.before.before.before.before.meaning-of.ensures, c.before.before.kind.given.1) c.kind-number.ensures)
-    (λ c. rw (← c.before.before.meaning-of.ensures, c.enum_told.given.1)))
+    (λ c. rw (← c.meaning_of.ensures, c.in-Known.is) c.kind_number.ensures)
+    (λ c. rw (← c.meaning_of.ensures, c.in-Unknown.is)))

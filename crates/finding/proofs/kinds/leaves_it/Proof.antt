@@ -11,5 +11,5 @@ leaves_it_spec =
     (λ c. search rules)
     (λ c κs. search rules)
     (λ c. search rules)
-    (λ c. rw (← c.before.before.before.before.meaning-of.ensures, c.before.before.kind.given.1) c.leaves.ensures)
-    (λ c. rw (← c.before.before.meaning-of.ensures, c.enum_told.given.1)))
+    (λ c. rw (← c.meaning_of.ensures, c.in-Known.is) c.leaves.ensures)
+    (λ c. rw (← c.meaning_of.ensures, c.in-Unknown.is)))

@@ -31,10 +31,10 @@ unfolding entry_at
 returns c =
     let a = c.before.before.before.before.before.before.before.before.before.before.before.before.before.before.before.before.before.args in
     let told = c.before.before.before.before.number_by_bits in
-    let moved = c.before.before.before.before.before.before.before.before.move-count in
+    let moved = c.before.before.before.before.before.before.before.before.move_count-count in
     let m = meaning_of (get_or a.group.now a.at 0) in (
-      c.reached-by.ensures ∙ ap (λ (n : ℕ). reached_by m a.reached n) moved.ensures.0.0,
-      put_row a.rows.now _ _ _ a.i _ _ _ (omega arith) c.before.before.before.before.before.before.before.before.before.before.before.before.put-number.ensures moved.ensures.1 c.before.before.before.put-number2.ensures
+      c.reached_by.ensures ∙ ap (λ (n : ℕ). reached_by m a.reached n) moved.ensures.0.0,
+      put_row a.rows.now _ _ _ a.i _ _ _ (omega arith) c.before.before.before.before.before.before.before.before.before.before.before.before.put_number.ensures moved.ensures.1 c.before.before.before.put_number-2.ensures
           ∙ ap (λ (k : ℕ). put a.rows.now a.i (in_bytes (k ∷ a.reached ∷ moved.result ∷ []))) (row_kind_lem _ _ c.before.before.before.before.before.before.before.before.before.before.before.before.before.before.before.before.before.requires.1.1 told.ensures)
           ∙ ap (λ (n : ℕ). put a.rows.now a.i (in_bytes (row_kind m ∷ a.reached ∷ n ∷ []))) moved.ensures.0.0,
     )
@@ -47,10 +47,10 @@ put_row_spec =
     (λ c. search rules)
     (λ c κs. search rules)
     (λ c. search rules)
-    (λ c κs. let a = c.before.before.before.before.before.before.before.before.args in ((omega (arith, c.before.before.before.put-number.auto.0), omega arith), flag_is a.group.now a.at))
+    (λ c κs. let a = c.before.before.before.before.before.before.before.before.args in ((omega (arith, c.before.before.before.put_number.auto.bytes), omega arith), flag_is a.group.now a.at))
     (λ c κs. search rules)
     (λ c. search rules)
-    (λ c κs. omega (arith, c.before.before.before.before.move-count.auto.0, c.before.before.before.before.before.before.before.before.put-number.auto.0))
-    (λ c κs. (let b = c.before.before.before.before.before.before.before.before.before.before.before.before.before.before.before.before in meant_is b.args.group.now b.args.at b.requires.1.1, (omega arith, omega (arith, c.before.before.before.before.before.before.before.move-count.ensures.0.1))))
+    (λ c κs. omega (arith, c.before.before.before.before.move_count-count.auto.bytes, c.before.before.before.before.before.before.before.before.put_number.auto.bytes))
+    (λ c κs. (let b = c.before.before.before.before.before.before.before.before.before.before.before.before.before.before.before.before in meant_is b.args.group.now b.args.at b.requires.1.1, (omega arith, omega (arith, c.before.before.before.before.before.before.before.move_count-count.ensures.0.1))))
     (λ c. search rules)
     returns)

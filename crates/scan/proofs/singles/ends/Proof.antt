@@ -14,16 +14,16 @@ use Rattle.scan.proofs.singles.ends.Tie as tie
 never : {A : Type 0} → false ≡ true → A
 never e = let z : ◌≡◌ {A = ℕ} 0 1 = ap (λ (b : Bool). cond b 1 0) e in absurd (omega arith)
 
-ended : tie.Need-returns-4
+ended : tie.Need-returns
 ended c x =
     let d = c.before.before in
     let s = d.before.before.before.before.before.before in
     let w = d.entry_word.ensures in
     let f = d.before.least.ensures in
-    let t = c.before.if3.false in
+    let t = c.before.if-entry_word-skip.false in
     let r = s.requires.1.reached in
-    skip_turn _ _ _ s.args.left s.args.here _ d.before.before.before.before.if1.false (omega arith) refl (omega (arith, w.is, w.small, f, t, r)) (omega (arith, w.is, w.small, f, t, r)) r
-    (holds d.before.before.before.may-end.ensures d.before.before.if2.false) (sym c.may_owe.ensures ∙ x)
+    skip_turn _ _ _ s.args.left s.args.here _ d.before.before.before.before.if-left-ne1.false (omega arith) refl (omega (arith, w.is, w.small, f, t, r)) (omega (arith, w.is, w.small, f, t, r)) r
+    (holds d.before.before.before.may_end.ensures d.before.before.if-not-may_end.false) (sym c.may_owe.ensures ∙ x)
 
 pub ends_spec : {M : Type 1} → statement M
 ends_spec =

@@ -21,15 +21,15 @@ record Held (group : List ℕ) (size entries : ℕ) (warned : Bool) (left₀ sum
   bounded : Bounded (entry_offset size entries) (free_at warned sum reached)
   same : scan_left size entries group left (free_at warned sum reached) ≡ scan_left size entries group left₀ (free_at warned sum₀ reached₀)
 
-abbrev invariant-loop : tie.invariant-loop
-invariant-loop group size entries given limit warned left₀ sum₀ reached₀ left sum reached = Held group size entries warned left₀ sum₀ reached₀ left sum reached
+abbrev invariant-loop-left : tie.invariant-loop-left
+invariant-loop-left group size entries given limit warned left₀ sum₀ reached₀ left sum reached = Held group size entries warned left₀ sum₀ reached₀ left sum reached
 
-abbrev decreases-loop : tie.decreases-loop
-decreases-loop group size entries given limit warned left₀ sum₀ reached₀ left sum reached = left
+abbrev decreases-loop-left : tie.decreases-loop-left
+decreases-loop-left group size entries given limit warned left₀ sum₀ reached₀ left sum reached = left
 
 -- The stretch stands between records.
-free : (c : tie.Else1 invariant-loop decreases-loop) → c.before.before.before.args.here.stand ≡ Free
-free c = free_is _ (sym c.before.stand-number.ensures ∙ c.if1.false)
+free : (c : tie.Else-stand_number-ne0 invariant-loop-left decreases-loop-left) → c.before.before.before.args.here.stand ≡ Free
+free c = free_is _ (sym c.before.stand_number.ensures ∙ c.if-stand_number-ne0.false)
 
 -- What the loop holds is what the call ensures.
 ended : {group : List ℕ} {size entries left₀ left sum reached : ℕ} (here : Cursor) → here.stand ≡ Free
@@ -37,17 +37,17 @@ ended : {group : List ℕ} {size entries left₀ left sum reached : ℕ} (here :
     → ((1 ≤ left) × (left ≤ left₀)) × ((Bounded (entry_offset size entries) (moved_to here sum reached)) × (scan_left size entries group left (moved_to here sum reached) ≡ scan_left size entries group left₀ here))
 ended {group} {size} {entries} {left₀} {left} {sum} {reached} here e h = ((h.some, h.fewer), (rw e h.bounded, subst (λ (stand : Stand). scan_left size entries group left (record { stand = stand; warned = here.warned; sum = sum; reached = reached }) ≡ scan_left size entries group left₀ (record { stand = stand; warned = here.warned; sum = here.sum; reached = here.reached })) (sym e) h.same))
 
-loop-again : tie.Need-loop-preserved invariant-loop decreases-loop
+loop-again : tie.Need-loop-left-preserved invariant-loop-left decreases-loop-left
 loop-again c =
-    let w = c.before.before.entry_word in
-    let l = c.before.before.before.before.loop in
-    let fits = c.if2.false in
+    let w = c.before.before.entry_word-word in
+    let l = c.before.before.before.before.loop-left in
+    let fits = c.if-limit-reached.false in
     record {
       some = omega arith;
       fewer = omega (arith, l.invariant.fewer);
       bounded = record { sum = omega arith; reached = omega arith };
       same =
-          single_turn _ _ _ l.left _ l.sum l.reached _ _ (omega arith) (omega arith) refl (c.before.single-data.ensures _ w.ensures (omega arith)) (omega (arith, w.ensures.small)) (omega arith)
+          single_turn _ _ _ l.left _ l.sum l.reached _ _ (omega arith) (omega arith) refl (c.before.single_data-data.ensures _ w.ensures (omega arith)) (omega (arith, w.ensures.small)) (omega arith)
           ∙ l.invariant.same;
     }
 
@@ -55,8 +55,8 @@ pub pass_spec : {M : Type 1} → statement M
 pass_spec =
     tie.close
     (tie.spec
-    invariant-loop
-    decreases-loop
+    invariant-loop-left
+    decreases-loop-left
     (λ c. omega arith)
     (λ c. omega arith)
     (λ c. omega arith)
@@ -68,12 +68,12 @@ pass_spec =
     (λ c. omega arith)
     (λ c. omega arith)
     (λ c κs. omega arith)
-    (λ c. omega (arith, c.before.before.loop.invariant.bounded.reached))
+    (λ c. omega (arith, c.before.before.loop-left.invariant.bounded.reached))
     (λ c κs. omega arith)
-    (λ c. omega (arith, c.before.before.before.loop.invariant.bounded.reached))
+    (λ c. omega (arith, c.before.before.before.loop-left.invariant.bounded.reached))
     (λ c. omega arith)
     (λ c. omega arith)
     (λ c. omega arith)
     loop-again
-    (λ c. ended _ (free c.before.before) c.before.loop.invariant)
-    (λ c. ended _ (free c.before.before.before.before.before) c.before.before.before.before.loop.invariant))
+    (λ c. ended _ (free c.before.before) c.before.loop-left.invariant)
+    (λ c. ended _ (free c.before.before.before.before.before) c.before.before.before.before.loop-left.invariant))

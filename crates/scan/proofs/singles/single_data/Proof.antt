@@ -6,15 +6,15 @@ use Rattle.scan.specs.Stretch.{separates, is_entire}
 use Rattle.scan.proofs.singles.single_data.Statement.{statement}
 use Rattle.scan.proofs.singles.single_data.Tie as tie
 
-separator : tie.Need-returns
+separator : tie.Need-returns-then-word-least
 separator c e w fits =
     let f = c.before.least.ensures in
-    separates (omega (arith, w.is, w.small, f, c.if1.true)) (omega (arith, w.is, w.small, f, c.if1.true)) refl
+    separates (omega (arith, w.is, w.small, f, c.if-word-least.true)) (omega (arith, w.is, w.small, f, c.if-word-least.true)) refl
 
-entire : tie.Need-returns-3
+entire : tie.Need-returns
 entire c e w fits =
-    let f = c.before.least2.ensures in
-    let x = c.if2.false in
+    let f = c.before.least-entire.ensures in
+    let x = c.if-word-entire.false in
     is_entire (omega (arith, w.is, w.small, f, x, fits)) (omega (arith, w.is, w.small, f, x, fits)) (omega (arith, w.is, w.small, f, x, fits))
 
 pub single_data_spec : {M : Type 1} → statement M

@@ -9,7 +9,7 @@ pack_in_spec =
     tie.close
     (tie.spec
     (λ c κs. search rules)
-    (λ c. rw (fails c.before.is-even.ensures c.if1.true))
+    (λ c. rw (fails c.before.is_even.ensures c.if-not-is_even.true))
     (λ c. search rules)
     (λ c. search rules)
-    (λ c. rw (holds c.before.before.is-even.ensures c.before.if1.false)))
+    (λ c. rw (holds c.before.before.is_even.ensures c.before.if-not-is_even.false)))

@@ -20,34 +20,34 @@ stored : (block : ℕ) (track now after : List ℕ) → after ≡ put now (32 * 
     → after ≡ put now (32 * block) (stands track block)
 stored block track now after e = e ∙ ap (put now (32 * block)) (between_ends (35 * block + 3) 32 track ∙ sym (data_part_between track block))
 
-abbrev invariant-loop : tie.invariant-loop
-invariant-loop items₀ track block₀ items block = Filled (stands track) 32 16 items₀ items block
+abbrev invariant-loop-block : tie.invariant-loop-block
+invariant-loop-block items₀ track block₀ items block = Filled (stands track) 32 16 items₀ items block
 
-abbrev decreases-loop : tie.decreases-loop
-decreases-loop items₀ track block₀ items block = 16 - block
+abbrev decreases-loop-block : tie.decreases-loop-block
+decreases-loop-block items₀ track block₀ items block = 16 - block
 
-loop-again : tie.Need-loop-preserved invariant-loop decreases-loop
+loop-again : tie.Need-loop-block-preserved invariant-loop-block decreases-loop-block
 loop-again c =
     let p = c.before.before in
     let t = p.before.before.before in
     let l = t.before in
     let s = l.before.before.before in
-    filled_turn _ 32 16 _ _ _ l.loop.block t.loop-test.true (length_data_part_at s.args.track.now s.requires.1 l.loop.block t.loop-test.true) p.put-bytes.auto.0
-    (stored l.loop.block s.args.track.now _ _ p.put-bytes.ensures) l.loop.invariant
+    filled_turn _ 32 16 _ _ _ l.loop-block.block t.loop-block-test.true (length_data_part_at s.args.track.now s.requires.1 l.loop-block.block t.loop-block-test.true) p.put_bytes.auto.group
+    (stored l.loop-block.block s.args.track.now _ _ p.put_bytes.ensures) l.loop-block.invariant
 
-returns : tie.Need-returns invariant-loop decreases-loop
+returns : tie.Need-returns invariant-loop-block decreases-loop-block
 unfolding items_of
 returns c =
     let l = c.before in
     let s = l.before.before.before in
-    filled_done _ 32 16 (length_data_part_at s.args.track.now s.requires.1) _ _ l.loop.block (omega arith) s.requires.0 l.loop.invariant
+    filled_done _ 32 16 (length_data_part_at s.args.track.now s.requires.1) _ _ l.loop-block.block (omega arith) s.requires.0 l.loop-block.invariant
 
 pub put_items_spec : {M : Type 1} → statement M
 put_items_spec =
     tie.close
     (tie.spec
-    invariant-loop
-    decreases-loop
+    invariant-loop-block
+    decreases-loop-block
     (λ c. filled_none _ 32 16 _)
     (λ c. omega arith)
     (λ c. omega arith)
@@ -60,9 +60,9 @@ put_items_spec =
     (λ c. omega arith)
     (λ c κs.
     let l = c.before.before.before in
-    omega (arith, l.loop.invariant.long, length_between (35 * l.loop.block + 3) 32 l.before.before.before.args.track.now (omega arith)))
+    omega (arith, l.loop-block.invariant.long, length_between (35 * l.loop-block.block + 3) 32 l.before.before.before.args.track.now (omega arith)))
     (λ c. omega arith)
     (λ c. omega arith)
     loop-again
-    (λ c. c.before.loop.invariant.long)
+    (λ c. c.before.loop-block.invariant.long)
     returns)

@@ -27,41 +27,41 @@ stored k pack track now e =
     let one : 1 * k ≡ k = omega arith in
     rw (one, sw2_at track (2 * k), ← e)
 
-abbrev invariant-loop : tie.invariant-loop
-invariant-loop packs₀ track k₀ packs k = Filled (held track) 1 8 packs₀ packs k
+abbrev invariant-loop-k : tie.invariant-loop-k
+invariant-loop-k packs₀ track k₀ packs k = Filled (held track) 1 8 packs₀ packs k
 
-abbrev decreases-loop : tie.decreases-loop
-decreases-loop packs₀ track k₀ packs k = 8 - k
+abbrev decreases-loop-k : tie.decreases-loop-k
+decreases-loop-k packs₀ track k₀ packs k = 8 - k
 
-loop-again : tie.Need-loop-preserved invariant-loop decreases-loop
+loop-again : tie.Need-loop-k-preserved invariant-loop-k decreases-loop-k
 loop-again c =
     let l = c.before.before.before in
     let s = l.before.before.before in
-    filled_turn (held s.args.track.now) 1 8 _ _ _ l.loop.k c.before.before.loop-test.true refl (simp length-set)
-    (stored l.loop.k _ s.args.track.now _ c.pack-of.ensures) l.loop.invariant
+    filled_turn (held s.args.track.now) 1 8 _ _ _ l.loop-k.k c.before.before.loop-k-test.true refl (simp length-set)
+    (stored l.loop-k.k _ s.args.track.now _ c.pack_of.ensures) l.loop-k.invariant
 
-returns : tie.Need-returns invariant-loop decreases-loop
+returns : tie.Need-returns invariant-loop-k decreases-loop-k
 unfolding packs_of
 returns c =
     let l = c.before in
     let s = l.before.before.before in
-    filled_done _ 1 8 (wide s.args.track.now) _ _ l.loop.k (omega arith) s.requires.0 l.loop.invariant
+    filled_done _ 1 8 (wide s.args.track.now) _ _ l.loop-k.k (omega arith) s.requires.0 l.loop-k.invariant
 
 pub put_packs_spec : {M : Type 1} → statement M
 put_packs_spec =
     tie.close
     (tie.spec
-    invariant-loop
-    decreases-loop
+    invariant-loop-k
+    decreases-loop-k
     (λ c. filled_none _ 1 8 _)
     (λ c. omega arith)
     (λ c. omega arith)
     (λ c. omega arith)
     (λ c. omega arith)
     (λ c κs. search rules)
-    (λ c. omega (arith, c.before.before.before.loop.invariant.long))
+    (λ c. omega (arith, c.before.before.before.loop-k.invariant.long))
     (λ c. omega arith)
     (λ c. omega arith)
     loop-again
-    (λ c. c.before.loop.invariant.long)
+    (λ c. c.before.loop-k.invariant.long)
     returns)

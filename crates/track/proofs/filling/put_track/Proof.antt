@@ -22,36 +22,36 @@ stored : (area pack block : ℕ) (packs items now after : List ℕ) → pack ≡
     → after ≡ put now (35 * block) (made area packs items block)
 stored area pack block packs items now after is e = e ∙ rw (between_ends (32 * block) 32 items, is)
 
-abbrev invariant-loop : tie.invariant-loop
-invariant-loop track₀ area packs items block₀ track block = Filled (made area packs items) 35 16 track₀ track block
+abbrev invariant-loop-block : tie.invariant-loop-block
+invariant-loop-block track₀ area packs items block₀ track block = Filled (made area packs items) 35 16 track₀ track block
 
-abbrev decreases-loop : tie.decreases-loop
-decreases-loop track₀ area packs items block₀ track block = 16 - block
+abbrev decreases-loop-block : tie.decreases-loop-block
+decreases-loop-block track₀ area packs items block₀ track block = 16 - block
 
-loop-again : tie.Need-loop-preserved invariant-loop decreases-loop
+loop-again : tie.Need-loop-block-preserved invariant-loop-block decreases-loop-block
 loop-again c =
     let p = c.before.before in
     let d = p.before.before.before in
     let l = d.before.before in
     let s = l.before.before.before.before in
-    filled_turn _ 35 16 _ _ _ l.loop.block d.before.loop-test.true (blocks_wide s.args.area s.args.packs.now s.args.items.now s.requires.0.1.1 l.loop.block d.before.loop-test.true) p.put-block.auto.0
-    (stored s.args.area _ l.loop.block s.args.packs.now s.args.items.now _ _ d.pack-in.ensures p.put-block.ensures) l.loop.invariant
+    filled_turn _ 35 16 _ _ _ l.loop-block.block d.before.loop-block-test.true (blocks_wide s.args.area s.args.packs.now s.args.items.now s.requires.0.1.1 l.loop-block.block d.before.loop-block-test.true) p.put_block.auto.track
+    (stored s.args.area _ l.loop-block.block s.args.packs.now s.args.items.now _ _ d.pack_in-pack.ensures p.put_block.ensures) l.loop-block.invariant
 
-returns : tie.Need-returns invariant-loop decreases-loop
+returns : tie.Need-returns invariant-loop-block decreases-loop-block
 unfolding track_of
 returns c =
     let l = c.before in
     let s = l.before.before.before.before in
-    filled_done _ 35 16 (blocks_wide s.args.area s.args.packs.now s.args.items.now s.requires.0.1.1) _ _ l.loop.block (omega arith) s.requires.0.0 l.loop.invariant
+    filled_done _ 35 16 (blocks_wide s.args.area s.args.packs.now s.args.items.now s.requires.0.1.1) _ _ l.loop-block.block (omega arith) s.requires.0.0 l.loop-block.invariant
 
 pub put_track_spec : {M : Type 1} → statement M
 put_track_spec =
     tie.close
     (tie.spec
-    invariant-loop
-    decreases-loop
+    invariant-loop-block
+    decreases-loop-block
     (λ c. filled_none _ 35 16 _)
-    (λ c κs. (c.before.before.before.before.before.requires.0.1.0, c.loop-test.true))
+    (λ c κs. (c.before.before.before.before.before.requires.0.1.0, c.loop-block-test.true))
     (λ c. omega arith)
     (λ c. omega arith)
     (λ c. omega arith)
@@ -64,10 +64,10 @@ put_track_spec =
     let d = c.before.before in
     let l = d.before.before in
     let s = l.before.before.before.before in
-    let less = d.before.loop-test.true in
-    ((omega (arith, l.loop.invariant.long), length_between (32 * l.loop.block) 32 _ (omega arith)), (s.requires.1.0, (rw d.pack-in.ensures (s.requires.1.1 l.loop.block less), less))))
+    let less = d.before.loop-block-test.true in
+    ((omega (arith, l.loop-block.invariant.long), length_between (32 * l.loop-block.block) 32 _ (omega arith)), (s.requires.1.0, (rw d.pack_in-pack.ensures (s.requires.1.1 l.loop-block.block less), less))))
     (λ c. omega arith)
     (λ c. omega arith)
     loop-again
-    (λ c. c.before.loop.invariant.long)
+    (λ c. c.before.loop-block.invariant.long)
     returns)

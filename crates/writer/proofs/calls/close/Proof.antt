@@ -12,7 +12,7 @@ returns : tie.Need-returns
 unfolding closed
 returns c =
     let a = c.before.before.before.before.before.before.args in
-    ap (λ (d : Desk). done (Closed d.state a.w.next (a.w.entries + 1) a.taken) d.group) c.before.before.before.shut.ensures
+    ap (λ (d : Desk). done (Closed d.state a.w.next (a.w.entries + 1) a.taken) d.group) c.before.before.before.shut-state.ensures
 
 pub close_spec : {M : Type 1} → statement M
 close_spec =

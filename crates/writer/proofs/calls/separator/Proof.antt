@@ -7,17 +7,17 @@ use Rattle.writer.specs.Calls.{separator_accepted, finished}
 use Rattle.writer.proofs.calls.separator.Statement.{statement}
 use Rattle.writer.proofs.calls.separator.Tie as tie
 
-laid : tie.Need-returns
+laid : tie.Need-returns-then-r-ge0
 unfolding separator_accepted finished
 laid c =
-    let r = c.before.before.before.before.before.room in
-    rw (le_read 0 r.result (omega arith) r.type-inv r.ensures c.before.before.before.before.if1.true) (ap finished c.before.before.lay-entry.ensures.0)
+    let r = c.before.before.before.before.before.room-r in
+    rw (le_read 0 r.result (omega arith) r.type_inv r.ensures c.before.before.before.before.if-r-ge0.true) (ap finished c.before.before.lay_entry-v.ensures.0)
 
-shut : tie.Need-returns-2
+shut : tie.Need-returns
 unfolding separator_accepted
 shut c =
-    let r = c.before.before.before.before.before.room in
-    rw (le_read 0 r.result (omega arith) r.type-inv r.ensures c.before.before.before.before.if1.false) c.before.before.close.ensures
+    let r = c.before.before.before.before.before.room-r in
+    rw (le_read 0 r.result (omega arith) r.type_inv r.ensures c.before.before.before.before.if-r-ge0.false) c.before.before.close.ensures
 
 pub separator_spec : {M : Type 1} → statement M
 separator_spec =
