@@ -65,7 +65,7 @@ read_keeps s t group number n room e =
     rw p.left (scan_keeps s.size (entry_offset s.size n) (entries_below group (s.size - information_length) n) 1 (opening s) p.end p.reached)
 
 -- What entries leave is what the last of them has.
-keeps_last : {before left : Bool} (group : List ℕ) (top n : ℕ) → Keeps before (entries_below group top (suc n)) left → left ≡ b4_of (entry_at group (top - entry_length * suc n)).flag
+keeps_last : (group : List ℕ) (top n : ℕ) {before left : Bool} → Keeps before (entries_below group top (suc n)) left → left ≡ b4_of (entry_at group (top - entry_length * suc n)).flag
 unfolding entries_below
 keeps_last group top zero (Keeps.one h Keeps.none) = refl
 keeps_last group top (suc n) (Keeps.one h k) =

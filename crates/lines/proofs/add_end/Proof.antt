@@ -18,4 +18,4 @@ add_end_spec =
     let three = c.before.before in
     let two = three.before.before.before.before in
     let one = two.before.before.before.before in
-    added_then one.add-ending.ensures (added_then two.add-field.ensures three.add-byte.ensures)))
+    added_then one.add_ending-ended.ensures (added_then two.add_field-summed.ensures three.add_byte.ensures)))

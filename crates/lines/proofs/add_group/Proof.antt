@@ -13,4 +13,4 @@ add_group_spec =
     (λ c κs. search rules)
     (λ c κs. search rules)
     (λ c. search rules)
-    (λ c. added_then c.before.before.before.before.before.before.add-head.ensures c.before.before.add-rows.ensures))
+    (λ c. added_then c.before.before.before.before.before.before.add_head-below.ensures c.before.before.add_rows.ensures))

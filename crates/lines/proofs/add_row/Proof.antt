@@ -20,4 +20,4 @@ add_row_spec =
     let three = four.before.before.before.before in
     let two = three.before.before.before.before in
     let one = two.before.before.before.before in
-    added_then one.add-kind.ensures (added_then two.add-field.ensures (added_then three.add-field2.ensures four.add-byte.ensures))))
+    added_then one.add_kind-named.ensures (added_then two.add_field-reached.ensures (added_then three.add_field-counted.ensures four.add_byte.ensures))))

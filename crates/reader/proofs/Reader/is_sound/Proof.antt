@@ -10,10 +10,10 @@ is_sound_spec =
     tie.close
     (tie.spec
     (λ c κs. search rules)
-    (λ c. unsound c.before.before.args.self (fails c.before.run_sound.ensures c.if1.true))
+    (λ c. unsound c.before.before.args.self (fails c.before.run_sound.ensures c.if-not-run_sound.true))
     (λ c.
     let d = c.before.before in
-    sound_later d.before.before.args.self (holds d.before.run_sound.ensures d.if1.false) c.if2.true)
+    sound_later d.before.before.args.self (holds d.before.run_sound.ensures d.if-not-run_sound.false) c.if-self-ge2.true)
     (λ c.
     let d = c.before.before.before in
-    sound_at_one d.before.before.args.self (holds d.before.run_sound.ensures d.if1.false) c.before.if2.false))
+    sound_at_one d.before.before.args.self (holds d.before.run_sound.ensures d.if-not-run_sound.false) c.before.if-self-ge2.false))

@@ -8,16 +8,16 @@ use Rattle.reader.proofs.Reader.read.Tie as tie
 
 fill-requires : tie.Need-fill-requires
 fill-requires c κs =
-    let e = sym c.before.before.before.judge.ensures ∙ c.before.enum_told.given.1 in
+    let e = sym c.judge-answer.ensures ∙ c.in-Accepted.is in
     let r = (accepted _ _ _ _ _ _ e).ready in
     (cut r, (data_within_lem _ _ _ _ _ _ e, r.rows))
 
-returns : tie.Need-returns
+returns : tie.Need-returns-in-Accepted
 unfolding group_rows
 returns c =
-    let f = c.before.before in
-    let t = f.before.before in
-    record { answer = t.before.before.judge.ensures; rows_left = rw t.enum_told.given.1 f.fill.ensures }
+    let f = c in
+    let t = f in
+    record { answer = t.judge-answer.ensures; rows_left = rw t.in-Accepted.is f.fill.ensures }
 
 pub read_spec : {M : Type 1} → statement M
 read_spec =
@@ -30,5 +30,5 @@ read_spec =
     (λ c. search rules)
     (λ c. search rules)
     returns
-    (λ c. record { answer = c.before.before.judge.ensures; rows_left = rw c.enum-told2.given.1 })
-    (λ c. record { answer = c.before.before.judge.ensures; rows_left = rw c.enum-told3.given.1 }))
+    (λ c. record { answer = c.judge-answer.ensures; rows_left = rw c.in-Repeated.is })
+    (λ c. record { answer = c.judge-answer.ensures; rows_left = rw c.in-Refused.is }))

@@ -10,5 +10,5 @@ repeats_spec =
     (tie.spec
     (λ c. search rules)
     (λ c. search rules)
-    (λ c. another_number c.before.before.args.self c.before.before.args.number c.if1.true)
-    (λ c. last_number_lem c.before.before.args.self c.before.before.args.number c.if1.false))
+    (λ c. another_number c.before.before.args.self c.before.before.args.number c.if-number-self.true)
+    (λ c. last_number_lem c.before.before.args.self c.before.before.args.number c.if-number-self.false))

@@ -11,5 +11,5 @@ start_spec =
     tie.close
     (tie.spec
     (λ c κs. search rules)
-    (λ c. rw (← c.before.start-refusal.ensures, ne_eqb _ _ c.if1.true))
-    (λ c. rw (← c.before.start-refusal.ensures, eq-eqb _ _ c.if1.false)))
+    (λ c. rw (← c.before.start_refusal-refusal.ensures, ne_eqb _ _ c.if-refusal-ne0.true))
+    (λ c. rw (← c.before.start_refusal-refusal.ensures, eq-eqb _ _ c.if-refusal-ne0.false)))

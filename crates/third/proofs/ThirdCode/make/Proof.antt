@@ -6,22 +6,22 @@ use Rattle.third.proofs.Answers.{refused, let_through, make_kept}
 use Rattle.third.proofs.ThirdCode.make.Statement.{statement}
 use Rattle.third.proofs.ThirdCode.make.Tie as tie
 
-refuses : tie.Need-returns
-refuses c = record { answer = refused _ c.before.length-refusal.ensures c.if1.true; rows_left = refl }
+refuses : tie.Need-returns-then-refusal-ne0
+refuses c = record { answer = refused _ c.before.length_refusal-refusal.ensures c.if-refusal-ne0.true; rows_left = refl }
 
-may : tie.Need-restore-both-requires
+may : tie.Need-restore_both-requires
 may c κs =
     let i = c.before in
-    let k = make_kept _ _ (sym i.before.length-refusal.ensures ∙ i.if1.false) in
+    let k = make_kept _ _ (sym i.before.length_refusal-refusal.ensures ∙ i.if-refusal-ne0.false) in
     (omega arith, omega arith, (λ e. absurd (omega arith)), k.long)
 
-does : tie.Need-returns-2
+does : tie.Need-returns
 does c =
     let d = c.before.before in
     let i = d.before.before in
     record {
-      answer = let_through _ (sym i.before.length-refusal.ensures ∙ i.if1.false);
-      rows_left = d.restore-both.ensures;
+      answer = let_through _ (sym i.before.length_refusal-refusal.ensures ∙ i.if-refusal-ne0.false);
+      rows_left = d.restore_both.ensures;
     }
 
 pub make_spec : {M : Type 1} → statement M

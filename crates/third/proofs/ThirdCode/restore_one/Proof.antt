@@ -6,22 +6,22 @@ use Rattle.third.proofs.Answers.{refused, let_through, one_kept}
 use Rattle.third.proofs.ThirdCode.restore_one.Statement.{statement}
 use Rattle.third.proofs.ThirdCode.restore_one.Tie as tie
 
-refuses : tie.Need-returns
-refuses c = record { answer = refused _ c.before.one-refusal.ensures c.if1.true; rows_left = refl }
+refuses : tie.Need-returns-then-refusal-ne0
+refuses c = record { answer = refused _ c.before.one_refusal-refusal.ensures c.if-refusal-ne0.true; rows_left = refl }
 
-may : tie.Need-restore-row-requires
+may : tie.Need-restore_row-requires
 may c κs =
     let i = c.before in
-    let k = one_kept _ _ _ (sym i.before.one-refusal.ensures ∙ i.if1.false) in
+    let k = one_kept _ _ _ (sym i.before.one_refusal-refusal.ensures ∙ i.if-refusal-ne0.false) in
     (omega (arith, k.1), k.0.long)
 
-does : tie.Need-returns-2
+does : tie.Need-returns
 does c =
     let d = c.before.before in
     let i = d.before.before in
     record {
-      answer = let_through _ (sym i.before.one-refusal.ensures ∙ i.if1.false);
-      rows_left = d.restore-row.ensures;
+      answer = let_through _ (sym i.before.one_refusal-refusal.ensures ∙ i.if-refusal-ne0.false);
+      rows_left = d.restore_row.ensures;
     }
 
 pub restore_one_spec : {M : Type 1} → statement M

@@ -27,14 +27,14 @@ even total n h d = go (ℕ_discrete total (row_count * n)) ∙ sym (rw (le-leb 1
     go (yes e) = eq-eqb (total / row_count) n (omega arith) ∙ sym (eq-eqb total (row_count * n) e)
     go (no u) = ne_eqb (total / row_count) n (λ q. u (omega arith)) ∙ sym (ne_eqb total (row_count * n) u)
 
-returns : tie.Need-returns
-returns c = empty c.before.args.total c.before.args.n c.if1.true
+returns : tie.Need-returns-then-n-lt1
+returns c = empty c.before.args.total c.before.args.n c.if-n-lt1.true
 
-returns-2 : tie.Need-returns-2
-returns-2 c = uneven c.before.before.args.total c.before.before.args.n c.before.if1.false c.if2.true
+returns-2 : tie.Need-returns-then-total-ne0
+returns-2 c = uneven c.before.before.args.total c.before.before.args.n c.before.if-n-lt1.false c.if-total-ne0.true
 
-returns-3 : tie.Need-returns-3
-returns-3 c = even c.before.before.args.total c.before.before.args.n c.before.if1.false c.if2.false
+returns-3 : tie.Need-returns
+returns-3 c = even c.before.before.args.total c.before.before.args.n c.before.if-n-lt1.false c.if-total-ne0.false
 
 pub length_kept_spec : {M : Type 1} → statement M
 length_kept_spec = tie.close (tie.spec returns returns-2 returns-3)
