@@ -15,10 +15,10 @@ start_spec =
     (λ c. search rules)
     (λ c κs. search rules)
     (λ c.
-    let e = c.before.before in
-    out_of_range _ _ _ _ (sym e.before.before.start.ensures ∙ e.enum-told2.given.1) (fails c.before.is-block-size.ensures c.if1.true))
-    (λ c. let e = c.enum_told.given.1 in e ∙ as_refused _ _ _ _ (sym c.before.before.start.ensures ∙ e))
+    let e = c in
+    out_of_range _ _ _ _ (sym e.start-start.ensures ∙ e.in-Started.is) (fails c.is_block_size.ensures c.if-not-is_block_size.true))
+    (λ c. let e = c.in-Refused.is in e ∙ as_refused _ _ _ _ (sym c.start-start.ensures ∙ e))
     (λ c.
-    let e = c.before.before in
-    e.enum-told2.given.1
-    ∙ as_started _ _ _ _ (sym e.before.before.start.ensures ∙ e.enum-told2.given.1) (holds c.before.is-block-size.ensures c.if1.false)))
+    let e = c in
+    e.in-Started.is
+    ∙ as_started _ _ _ _ (sym e.start-start.ensures ∙ e.in-Started.is) (holds c.is_block_size.ensures c.if-not-is_block_size.false)))

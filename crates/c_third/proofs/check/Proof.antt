@@ -7,15 +7,15 @@ use Rattle.c_third.proofs.Laws.{checked}
 use Rattle.c_third.proofs.check.Statement.{statement}
 use Rattle.c_third.proofs.check.Tie as tie
 
-by_length : tie.Need-returns
+by_length : tie.Need-returns-then-answer-ne-ANSWER_LENGTH
 unfolding dds_third_check
-by_length c = stopped _ _ _ _ (ne_eqb _ _ c.if1.true)
+by_length c = stopped _ _ _ _ (ne_eqb _ _ c.if-answer-ne-ANSWER_LENGTH.true)
 
-answers : tie.Need-returns-2
+answers : tie.Need-returns
 answers c =
     let t = c.before.before in
     let d = t.before.before.before in
-    checked _ _ _ (eq-eqb _ _ d.before.if1.false) d.check.ensures t.before.told.ensures t.tell.ensures
+    checked _ _ _ (eq-eqb _ _ d.before.if-answer-ne-ANSWER_LENGTH.false) d.check-done.ensures t.before.told.ensures t.tell.ensures
 
 pub check_spec : {M : Type 1} → statement M
 check_spec =

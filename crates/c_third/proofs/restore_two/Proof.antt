@@ -7,15 +7,15 @@ use Rattle.c_third.proofs.Laws.{done}
 use Rattle.c_third.proofs.restore_two.Statement.{statement}
 use Rattle.c_third.proofs.restore_two.Tie as tie
 
-by_length : tie.Need-returns
+by_length : tie.Need-returns-then-answer-ne-ANSWER_LENGTH
 unfolding third_call
-by_length c = stopped _ _ _ _ (ne_eqb _ _ c.if1.true)
+by_length c = stopped _ _ _ _ (ne_eqb _ _ c.if-answer-ne-ANSWER_LENGTH.true)
 
-answers : tie.Need-returns-2
+answers : tie.Need-returns
 answers c =
     let t = c.before.before in
     let d = t.before.before.before.before.before in
-    done _ _ _ _ _ (eq-eqb _ _ d.before.before.if1.false) d.restore-two.ensures t.before.told.ensures t.tell.ensures
+    done _ _ _ _ _ (eq-eqb _ _ d.before.before.if-answer-ne-ANSWER_LENGTH.false) d.restore_two-done.ensures t.before.told.ensures t.tell.ensures
 
 pub restore_two_spec : {M : Type 1} → statement M
 restore_two_spec =

@@ -9,5 +9,5 @@ told_spec =
     (tie.spec
     (λ c. search rules)
     (λ c. search rules)
-    (λ c. rw c.before.done.given.1)
-    (λ c. rw c.before.done2.given.1))
+    (λ c. rw c.in-Accepted.is)
+    (λ c. rw c.in-Refused.is))

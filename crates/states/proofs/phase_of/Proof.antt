@@ -8,6 +8,6 @@ pub phase_of_spec : {M : Type 1} → statement M
 phase_of_spec =
     tie.close
     (tie.spec
-    (λ c. rw (ne_eqb c.before.args.n 0 (λ e. omega (arith, c.if1.true)), ne_eqb c.before.args.n 1 (λ e. omega (arith, c.if1.true))))
-    (λ c. rw c.if2.true)
-    (λ c. rw (eq-eqb c.before.before.args.n 0 (omega (arith, c.before.if1.false, c.if2.false)))))
+    (λ c. rw (ne_eqb c.before.args.n 0 (λ e. omega (arith, c.if-n-gt1.true)), ne_eqb c.before.args.n 1 (λ e. omega (arith, c.if-n-gt1.true))))
+    (λ c. rw c.if-n-eq1.true)
+    (λ c. rw (eq-eqb c.before.before.args.n 0 (omega (arith, c.before.if-n-gt1.false, c.if-n-eq1.false)))))

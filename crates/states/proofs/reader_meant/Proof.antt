@@ -14,14 +14,14 @@ reader_meant_spec =
     tie.close
     (tie.spec
     (λ c κs. search rules)
-    (λ c. reader_unmeant _ (fails c.before.phase_meant.ensures c.if1.true))
+    (λ c. reader_unmeant _ (fails c.before.phase_meant.ensures c.if-not-phase_meant.true))
     (λ c κs. search rules)
     (λ c.
     let d = c.before.before in
-    reader_b4_unmeant _ (holds d.before.phase_meant.ensures d.if1.false) (omega (arith, c.before.number_at.ensures, c.if2.true)))
+    reader_b4_unmeant _ (holds d.before.phase_meant.ensures d.if-not-phase_meant.false) (omega (arith, c.before.number_at.ensures, c.if-number_at-gt1.true)))
     (λ c κs. search rules)
     (λ c.
     let b = c.before in
     let d = b.before.before in
-    ap (λ (n : ℕ). b4_meant n) c.number-at2.ensures
-    ∙ accepted_meant _ (holds d.before.phase_meant.ensures d.if1.false) (omega (arith, b.before.number_at.ensures, b.if2.false))))
+    ap (λ (n : ℕ). b4_meant n) c.number_at-2.ensures
+    ∙ accepted_meant _ (holds d.before.phase_meant.ensures d.if-not-phase_meant.false) (omega (arith, b.before.number_at.ensures, b.if-number_at-gt1.false))))

@@ -12,4 +12,4 @@ reader_of_spec =
     (λ c κs. search rules)
     (λ c κs. search rules)
     (λ c κs. search rules)
-    (λ c. rw (c.before.before.run_of.ensures, c.before.number_at.ensures, c.number-at2.ensures)))
+    (λ c. rw (c.before.before.run_of-run.ensures, c.before.number_at.ensures, c.number_at-2.ensures)))

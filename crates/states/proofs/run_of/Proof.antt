@@ -12,4 +12,4 @@ run_of_spec =
     (λ c κs. search rules)
     (λ c κs. search rules)
     (λ c κs. search rules)
-    (λ c. rw (c.before.phase-of.ensures, c.before.before.before.before.number_at.ensures, c.before.before.before.number-at2.ensures, c.before.before.number-at3.ensures, c.number-at4.ensures)))
+    (λ c. rw (c.before.phase_of.ensures, c.before.before.before.before.number_at.ensures, c.before.before.before.number_at-2.ensures, c.before.before.number_at-3.ensures, c.number_at-4.ensures)))

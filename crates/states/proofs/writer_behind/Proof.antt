@@ -7,7 +7,7 @@ use Rattle.states.proofs.writer_behind.Tie as tie
 returns : tie.Need-returns
 unfolding reader_of writer_of
 returns c =
-    rw (c.before.before.before.before.before.requires.1, c.before.before.before.number_at.ensures, c.before.before.number-at2.ensures, c.before.number-at3.ensures, c.number-at4.ensures)
+    rw (c.before.before.before.before.before.requires.1, c.before.before.before.number_at.ensures, c.before.before.number_at-2.ensures, c.before.number_at-3.ensures, c.number_at-4.ensures)
 
 pub writer_behind_spec : {M : Type 1} → statement M
 writer_behind_spec =

@@ -11,11 +11,11 @@ writer_meant_spec =
     tie.close
     (tie.spec
     (λ c κs. search rules)
-    (λ c. phase_unmeant _ c.before.before.before.args.warn (fails c.before.phase_meant.ensures c.if1.true))
+    (λ c. phase_unmeant _ c.before.before.before.args.warn (fails c.before.phase_meant.ensures c.if-not-phase_meant.true))
     (λ c κs. search rules)
     (λ c.
     let d = c.before.before in
-    b4_unmeant _ d.before.before.before.args.warn (holds d.before.phase_meant.ensures d.if1.false) (omega (arith, c.before.number_at.ensures)))
+    b4_unmeant _ d.before.before.before.args.warn (holds d.before.phase_meant.ensures d.if-not-phase_meant.false) (omega (arith, c.before.number_at.ensures)))
     (λ c.
     let d = c.before.before in
-    warn_meant _ d.before.before.before.args.warn (holds d.before.phase_meant.ensures d.if1.false) (omega (arith, c.before.number_at.ensures))))
+    warn_meant _ d.before.before.before.args.warn (holds d.before.phase_meant.ensures d.if-not-phase_meant.false) (omega (arith, c.before.number_at.ensures))))

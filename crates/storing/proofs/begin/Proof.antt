@@ -10,7 +10,7 @@ returns c n e =
     let c1 = c2.before.before.before.before in
     let z = c1.before.before.before.before in
     let a = z.before.before.before.args in
-    rw (c2.put-number2.ensures, c1.put-number.ensures, z.put-zeros.ensures) (two_over_zeros a.slice.now a.size a.first n e)
+    rw (c2.put_number-2.ensures, c1.put_number.ensures, z.put_zeros.ensures) (two_over_zeros a.slice.now a.size a.first n e)
 
 pub begin_spec : {M : Type 1} → statement M
 begin_spec =

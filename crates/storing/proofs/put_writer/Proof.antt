@@ -16,7 +16,7 @@ returns c =
     let c2 = c3.before.before.before.before in
     let c1 = c2.before.before.before.before in
     let s = c1.before.before.before.before.before in
-    rw (c8.keep8.ensures, c7.keep7.ensures, c6.keep6.ensures, c5.keep5.ensures, c4.keep4.ensures, c3.keep3.ensures, c2.keep2.ensures, c1.keep.ensures, c1.before.before.before.phase-number.ensures, c1.before.before.b4-number.ensures) (puts_whole s.args.slice.now (writer_numbers s.args.w) s.requires)
+    rw (c8.keep-8.ensures, c7.keep-7.ensures, c6.keep-6.ensures, c5.keep-5.ensures, c4.keep-4.ensures, c3.keep-3.ensures, c2.keep-2.ensures, c1.keep.ensures, c1.before.before.before.phase_number-phase.ensures, c1.before.before.b4_number-b4.ensures) (puts_whole s.args.slice.now (writer_numbers s.args.w) s.requires)
 
 pub put_writer_spec : {M : Type 1} → statement M
 put_writer_spec =

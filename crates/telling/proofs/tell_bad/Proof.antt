@@ -14,4 +14,4 @@ tell_bad_spec =
     (tie.spec
     (λ c κs. search rules)
     (λ c. search rules)
-    (λ c. tells refl (omega arith) c.before.before.add-bad.ensures refl))
+    (λ c. tells refl (omega arith) c.before.before.add_bad-length.ensures refl))

@@ -12,7 +12,7 @@ tell_end_spec =
     (tie.spec
     (λ c κs. search rules)
     (λ c. search rules)
-    (λ c. tells_as (end_extra _ _ c.before.before.before.before.if1.true) c.before.before.tell-bad.ensures)
+    (λ c. tells_as (end_extra _ _ c.before.before.before.before.if-extra.true) c.before.before.tell_bad.ensures)
     (λ c κs. search rules)
     (λ c. search rules)
-    (λ c. tells (end_right _ _ c.before.before.before.before.if1.false) (omega arith) c.before.before.add-end.ensures refl))
+    (λ c. tells (end_right _ _ c.before.before.before.before.if-extra.false) (omega arith) c.before.before.add_end-length.ensures refl))

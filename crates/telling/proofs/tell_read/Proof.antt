@@ -12,28 +12,28 @@ use Rattle.telling.proofs.tell_read.Tie as tie
 room : length (replicate {A = ℕ} row_numbers 0) ≡ row_numbers
 room = length-replicate {A = ℕ} row_numbers 0
 
-add-group-requires : tie.Need-add-group-requires
+add-group-requires : tie.Need-add_group-length-requires
 add-group-requires c κs =
-    let read = c.before.before.before.before.before.before.read in
-    let few = few_entries _ _ _ _ _ _ _ room read.ensures _ c.before.before.before.next.given.1 in
-    (omega (arith, few, c.before.before.before.before.before.before.before.before.before.before.requires), omega (arith, few, read.auto.1.1.1.1.0))
+    let read = c.read in
+    let few = few_entries _ _ _ _ _ _ _ room read.ensures _ c.in-Accepted.is in
+    (omega (arith, few, c.requires), omega (arith, few, read.auto.rows))
 
-returns : tie.Need-returns
+returns : tie.Need-returns-in-Accepted
 returns c =
-    let read = c.before.before.before.before.before.before.before.before.before.read in
-    let told = c.before.before.before.before.before.before.next.given.1 in
+    let read = c.read in
+    let told = c.in-Accepted.is in
     let few = few_entries _ _ _ _ _ _ _ room read.ensures _ told in
-    tells (read_on _ _ _ _ _ _ _ room read.ensures _ told) (omega (arith, few)) c.before.before.add-group.ensures refl
+    tells (read_on _ _ _ _ _ _ _ room read.ensures _ told) (omega (arith, few)) c.add_group-length.ensures refl
 
-returns-2 : tie.Need-returns-2
+returns-2 : tie.Need-returns-in-Repeated
 returns-2 c =
-    let read = c.before.before.before.before.before.before.before.before.read in
-    tells (read_again _ _ _ _ _ _ _ room read.ensures _ c.before.before.before.before.before.state.given.1) (omega arith) c.before.before.add-repeat.ensures refl
+    let read = c.read in
+    tells (read_again _ _ _ _ _ _ _ room read.ensures _ c.in-Repeated.is) (omega arith) c.add_repeat-length.ensures refl
 
-returns-3 : tie.Need-returns-3
+returns-3 : tie.Need-returns-in-Refused
 returns-3 c =
-    let read = c.before.before.before.before.before.before.before.before.read in
-    tells_as (read_off _ _ _ _ _ _ _ room read.ensures _ _ _ c.before.before.before.before.before.refusal.given.1) c.before.before.tell-refusal.ensures
+    let read = c.read in
+    tells_as (read_off _ _ _ _ _ _ _ room read.ensures _ _ _ c.in-Refused.is) c.tell_refusal.ensures
 
 pub tell_read_spec : {M : Type 1} → statement M
 tell_read_spec =

@@ -12,4 +12,4 @@ tell_refusal_spec =
     (tie.spec
     (λ c κs. search rules)
     (λ c. search rules)
-    (λ c. tells refl (omega arith) c.before.before.add-refusal.ensures refl))
+    (λ c. tells refl (omega arith) c.before.before.add_refusal-length.ensures refl))
