@@ -117,7 +117,7 @@ module _ {first : ℕ} {v : Desk} {run : List Image} {done : List Item} (r : Rea
       after_close m (moved phase.Inside m (length bs - m) (lay_part kind.Start (take m bs) v)) k (record { follows = refl; owes = refl }) refl l r.low r.small (omega arith) more (append-nil done) refl
   record_free_lem low high (nothing h) = close_free refl refl
 
-separator_free : {first : ℕ} {v : Desk} {run : List Image} {d : Done} (a : Account) → Ready first v run a.finished → a.begun ≡ [] → (value : ℕ) → value ≤ 1 → SeparatorLaid value v d →
+separator_free : {first : ℕ} {v : Desk} {run : List Image} (a : Account) → Ready first v run a.finished → a.begun ≡ [] → (value : ℕ) → value ≤ 1 → {d : Done} → SeparatorLaid value v d →
     After v.state.size first run (λ o. after_separator value o a) d
 unfolding finished closed after_separator lay_entry kind_of count_of data_of may_follow items_after begun_after
 separator_free a r t value low (laid h) =
@@ -258,7 +258,7 @@ module _ {first : ℕ} {run : List Image} (a : Account) (warn : Bool) (w : Desk)
   resting phase.Inside e k = finishes k
   resting phase.Owed e k = absurd (true≢false (sym e))
 
-  ended : {d : Done} (p : Phase) → Ended (in_phase p w).state w.group → Kept w.state.size first (in_phase p w) run a → EndLaid warn (in_phase p w) d →
+  ended : (p : Phase) {d : Done} → Ended (in_phase p w).state w.group → Kept w.state.size first (in_phase p w) run a → EndLaid warn (in_phase p w) d →
       After w.state.size first run (λ o. noted (an_end warn) p o a) d
   ended p t k (ends_nothing e) = resting p e k
   ended p t k (ends_group e) = resized (size_kept_lem warn w p) (shutting p t.sound (t.next e) t.shut k)

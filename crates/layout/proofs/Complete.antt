@@ -51,7 +51,7 @@ pub record Past (size : ℕ) (to : Stand) (n : ℕ) (ps : List Piece) (rest : Li
   pub sum : ℕ
   pub goes : Walk size to n stand sum 0 rest
 
-pub past : {size : ℕ} {to at : Stand} {n s r : ℕ} (ps : List Piece) (rest : List Token) → Walk size to n at s r (map piece ps ++ (group_end ∷ rest)) → Past size to n ps rest
+pub past : {size : ℕ} {to : Stand} {n : ℕ} (ps : List Piece) (rest : List Token) {at : Stand} {s r : ℕ} → Walk size to n at s r (map piece ps ++ (group_end ∷ rest)) → Past size to n ps rest
 past [] rest (leap h w) = record { small = each_none; stand = _; sum = _; goes = w }
 past (p ∷ ps) rest (step f w) =
     let q = past ps rest w in

@@ -3,7 +3,7 @@
 use Prim.Native.Nat.{ℕ, zero, suc, ◌+◌, ◌*◌, ◌-◌, ◌≤◌}
 use native.Mathlib.Omega.{arith}
 use mathlib.Core.List.{List, [], ◌∷◌, ◌++◌, append_assoc}
-use mathlib.Core.Path.{◌≡◌, refl, ap}
+use mathlib.Core.Path.{◌≡◌, ◌∙◌, refl, sym, ap}
 use lib.ListN.{length, length-append, take, drop}
 use lib.Seq.{drop-append_seam, take-append_seam}
 use Rattle.group.specs.declared.Entry.{Entry}
@@ -87,7 +87,11 @@ rows_back d (p ∷ ps) rest plain over reached e =
     let t : reached_after (kind_of p) reached (count_of p) ≡ length (d ++ data_of p) = simp length-append (omega (arith, data_after p reached)) in
     let later = rows_back (d ++ data_of p) ps rest (plain_left plain) over (reached_after (kind_of p) reached (count_of p)) t in
     let one : piece_of (kind_number (kind_of p)) (count_of p) (take (count_of p) (drop reached (d ++ (data_of p ++ (user_data ps ++ rest))))) ≡ p ∷ [] = rw e (piece_back d p (user_data ps ++ rest)) in
-    rw (meaning_of_flag (kind_of p) (b4_after plain), append_assoc (data_of p) (user_data ps) rest, one, ← append_assoc d (data_of p) (user_data ps ++ rest), later)
+    let same : d ++ (user_data (p ∷ ps) ++ rest) ≡ (d ++ data_of p) ++ (user_data ps ++ rest) =
+    ap (λ (l : List ℕ). d ++ l) (append_assoc (data_of p) (user_data ps) rest) ∙ sym (append_assoc d (data_of p) (user_data ps ++ rest)) in
+    rw (meaning_of_flag (kind_of p) (b4_after plain), append_assoc (data_of p) (user_data ps) rest, one)
+    (ap (λ (l : List Piece). p ∷ l)
+    (ap (λ (bytes : List ℕ). pieces_from bytes (rows_from (reached_after (kind_of p) reached (count_of p)) (entries_of (plain_left plain) over ps))) same ∙ later))
 
 -- The rows of a group that pictures pieces give the pieces back.
 pub pieces_back : {size plain : ℕ} {ps : List Piece} {g : Image} → Pictures size plain ps g → size ≤ longest_record → Each SmallPiece ps →

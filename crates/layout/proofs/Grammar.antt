@@ -86,7 +86,7 @@ module _ {size : ℕ} {to : Stand} {n : ℕ} where
   at_middles {s} each_none h w = rw add-zero at w
   at_middles {s} (each_more {a = p} {l = ps} part rest) h w =
       let e : s + length (p ++ joined ps) ≡ s + length p + length (joined ps) = simp length-append (omega arith) in
-      at_middle part (omega arith) (at_middles rest (omega arith) (rw e at w))
+      at_middle part (omega arith) (at_middles {s = s + length p} rest (omega arith) (rw e at w))
 
 unfoldable pub tail_stand : Tail → Stand
 tail_stand none_open = Free
@@ -252,7 +252,7 @@ found_end size b_inside (o_inside p ps a b h e z) =
 found_end size b_owed (o_owed p ps q a b c h e m) =
     record { laid = []; tail = broken_owed p ps q; sound = each_none; sound_tail = sound_owed {p = p} {ps = ps} {q = q} a b c (omega (arith, length_whole p ps q)) m; shows = refl }
 
-pub find : (size : ℕ) {to at : Stand} {n s r : ℕ} {ts : List Token} → Between to → (o : Open size at s r) → Walk size to n at s r ts → Found size (before o ts)
+pub find : (size : ℕ) {to : Stand} {n : ℕ} {at : Stand} {s r : ℕ} {ts : List Token} → Between to → (o : Open size at s r) → Walk size to n at s r ts → Found size (before o ts)
 find size b o stop = found_end size b o
 find size b o (step {p} {ts} f w) = (take_piece size o p f).back ts (find size b (take_piece size o p f).opens w)
 find size b o (leap {ts} h w) = (take_end size o h).back ts (find size b (take_end size o h).opens w)

@@ -31,7 +31,7 @@ use Rattle.layout.proofs.Buffer.Through.{all_clear, no_more}
 
 -- At the end of a list: a walk, the tokens, the pieces, the run.
 
-walk_piece : {size : ℕ} {to at : Stand} {n s r : ℕ} {ts : List Token} (p : Piece) → Walk size to n at s r ts → Fits to n p →
+walk_piece : {size : ℕ} {to : Stand} {n : ℕ} {at : Stand} {s r : ℕ} {ts : List Token} (p : Piece) → Walk size to n at s r ts → Fits to n p →
     Walk size (stand_after to (kind_of p)) (sum_after (kind_of p) n (count_of p)) at s r (ts ++ (piece p ∷ []))
 walk_piece p stop f = step f stop
 walk_piece p (step g w) f = step g (walk_piece p w f)
@@ -43,7 +43,7 @@ reached_in reached [] = reached
 reached_in reached (piece p ∷ ts) = reached_in (reached_after (kind_of p) reached (count_of p)) ts
 reached_in reached (group_end ∷ ts) = reached_in 0 ts
 
-walk_end : {size : ℕ} {to at : Stand} {n s r : ℕ} {ts : List Token} → Walk size to n at s r ts → Ends size to (reached_in r ts) → Walk size (stand_at (phase_after to)) n at s r (ts ++ (group_end ∷ []))
+walk_end : {size : ℕ} {to : Stand} {n : ℕ} {at : Stand} {s r : ℕ} {ts : List Token} → Walk size to n at s r ts → Ends size to (reached_in r ts) → Walk size (stand_at (phase_after to)) n at s r (ts ++ (group_end ∷ []))
 unfolding reached_in
 walk_end stop f = leap f stop
 walk_end (step g w) f = step g (walk_end w f)

@@ -85,8 +85,8 @@ split_more {s} {g} old e r =
       goes_on = r.goes_on;
     }
 
-pub split : {s final : Reader} {rows : List (List ℕ)} (a b : List Image) → Accepts s (a ++ b) rows final → Split s a b rows final
-split {s} {rows} [] b x = record { left = s; before = []; behind = rows; parts = refl; begins = accepts_none; goes_on = x }
+pub split : {final : Reader} (a b : List Image) {s : Reader} {rows : List (List ℕ)} → Accepts s (a ++ b) rows final → Split s a b rows final
+split [] b {s} {rows} x = record { left = s; before = []; behind = rows; parts = refl; begins = accepts_none; goes_on = x }
 split (g ∷ a) b (accepts_more old e x) = split_more old e (split a b x)
 
 pub each_before : {P : Image → Type 0} (a b : List Image) → Each P (a ++ b) → Each P a

@@ -103,14 +103,15 @@ left_by s t g room e =
       sized = ap (λ (r : Reader). r.size) p.left;
     }
 
-in-behind : {size : ℕ} {t u : Reader} {rows : List (List ℕ)} (run : List Image) (lent : List (List ℕ)) (last : ℕ) → sound t ≡ true → t.accepted ≡ true → t.next ≡ last + 1 → t.size ≡ size →
+in_behind : {size : ℕ} {t u : Reader} {rows : List (List ℕ)} (run : List Image) (lent : List (List ℕ)) (last : ℕ) → sound t ≡ true → t.accepted ≡ true → t.next ≡ last + 1 → t.size ≡ size →
     Each (OfSize size) run → LentBehind last run lent → Accepts t (behind last run) rows u → Through t run lent u
 unfolding behind
-in-behind [] lent last h k n z each_none behind_none accepts_none = record { rows = []; reads = end_none }
-in-behind {size} {t} {u} {rows} (g ∷ gs) (old ∷ lent) last h k n z (each_more long sizes) (behind_more fits more) x =
+in_behind [] lent last h k n z each_none behind_none accepts_none = record { rows = []; reads = end_none }
+in_behind (g ∷ gs) [] last h k n z _ fits x = elim fits [ ]
+in_behind {size} {t} {u} {rows} (g ∷ gs) (old ∷ lent) last h k n z (each_more long sizes) (behind_more fits more) x =
     by (eqb g.number last) refl x
-    (λ (e : g.number ≡ last) (y : Accepts t (behind last gs) rows u). in-behind gs lent last h k n z sizes (subst (λ (m : ℕ). LentBehind m gs lent) e more) y)
-    (λ (v : Reader) (rest : List (List ℕ)) (l : Left t v g) (y : Accepts v (behind g.number gs) rest u). in-behind gs lent g.number l.keeps l.said l.raised (l.sized ∙ z) sizes more y)
+    (λ (e : g.number ≡ last) (y : Accepts t (behind last gs) rows u). in_behind gs lent last h k n z sizes (subst (λ (m : ℕ). LentBehind m gs lent) e more) y)
+    (λ (v : Reader) (rest : List (List ℕ)) (l : Left t v g) (y : Accepts v (behind g.number gs) rest u). in_behind gs lent g.number l.keeps l.said l.raised (l.sized ∙ z) sizes more y)
   where
     enough : (g.number ≡ last → ⊥) → (g.number ≡ last) ⊎ (3 * g.entries ≤ length old) → 3 * g.entries ≤ length old
     enough other (inl e) = absurd (other e)
@@ -128,12 +129,13 @@ in-behind {size} {t} {u} {rows} (g ∷ gs) (old ∷ lent) last h k n z (each_mor
         repeat_through old h k (long ∙ sym z) (omega arith) (same is y)
     by false e y same go = kept_on (enough (eqb-false g.number last e) fits) y go
 
-pub repeats_in : {s u : Reader} {rows : List (List ℕ)} (run : List Image) (lent : List (List ℕ)) → Each (OfSize s.size) run → LentAmong run lent → Accepts s (without_repeats run) rows u → Through s run lent u
+pub repeats_in : {s u : Reader} (run : List Image) (lent : List (List ℕ)) {rows : List (List ℕ)} → Each (OfSize s.size) run → LentAmong run lent → Accepts s (without_repeats run) rows u → Through s run lent u
 unfolding without_repeats
 repeats_in [] lent each_none among_none accepts_none = record { rows = []; reads = end_none }
+repeats_in (g ∷ gs) [] _ fits x = elim fits [ ]
 repeats_in {s} (g ∷ gs) (old ∷ lent) (each_more long sizes) (among_more fits more) (accepts_more {t = v} other e y) =
     let l = left_by s v g (length other) e in
-    more_through old (any_room s v g (length other) (length old) e fits) (in-behind gs lent g.number l.keeps l.said l.raised l.sized sizes more y)
+    more_through old (any_room s v g (length other) (length old) e fits) (in_behind gs lent g.number l.keeps l.said l.raised l.sized sizes more y)
 
 -- Row buffers that are long enough for every group are so for those that are no repeats.
 lent_behind : {run : List Image} {lent : List (List ℕ)} (last : ℕ) → Lent run lent → LentBehind last run lent
@@ -188,8 +190,8 @@ one_before old listed reads r =
       goes_on = r.goes_on;
     }
 
-pub split_end : {s final : Reader} {lent rows : List (List ℕ)} (a b : List Image) → ToEnd s (a ++ b) lent rows final → SplitEnd s a b lent rows final
-split_end {s} {lent} {rows} [] b x =
+pub split_end : {final : Reader} (a b : List Image) {s : Reader} {lent rows : List (List ℕ)} → ToEnd s (a ++ b) lent rows final → SplitEnd s a b lent rows final
+split_end [] b {s} {lent} {rows} x =
     record { left = s; lent_before = []; lent_behind = lent; before = []; after = rows; lent_parts = refl; parts = refl; begins = end_none; goes_on = x }
 split_end (g ∷ a) b (end_more {s} old e x) =
     one_before old (rows_left (read_call s g.bytes g.number g.entries (length old)) (group_rows s g.bytes g.entries) old ∷ []) (λ earlier before left y. end_more old e y) (split_end a b x)
@@ -213,7 +215,7 @@ behind_first (end_repeat {s} {g} old e x) =
     let r = (repeat_last s s g.bytes g.number g.entries (length old) e).0 in
     record { lent = _; rows = _; state = s; final = _; next = sym r; low = omega arith; reads = x }
 
-pub no_lower : {s u : Reader} {lent rows : List (List ℕ)} (h : Image) (b c : List Image) → ToEnd s (b ++ (h ∷ c)) lent rows u → s.next ≤ h.number + 1
+pub no_lower : (h : Image) (b c : List Image) {s u : Reader} {lent rows : List (List ℕ)} → ToEnd s (b ++ (h ∷ c)) lent rows u → s.next ≤ h.number + 1
 no_lower h [] c x = (behind_first x).low
 no_lower h (g ∷ b) c x =
     let r = behind_first x in

@@ -40,13 +40,13 @@ record Cut (size : ℕ) (to : Stand) (n : ℕ) (at : Stand) (s r : ℕ) (ts us :
   front : Walk size mid sum at s r ts
   back : Walk size to n mid sum reached us
 
-cut : {size : ℕ} {to at : Stand} {n s r : ℕ} (ts us : List Token) → Walk size to n at s r (ts ++ us) → Cut size to n at s r ts us
+cut : {size : ℕ} {to : Stand} {n : ℕ} (ts us : List Token) {at : Stand} {s r : ℕ} → Walk size to n at s r (ts ++ us) → Cut size to n at s r ts us
 cut [] us w = record { mid = _; sum = _; reached = _; front = stop; back = w }
 cut (piece p ∷ ts) us (step f w) = let c = cut ts us w in record { mid = c.mid; sum = c.sum; reached = c.reached; front = step f c.front; back = c.back }
 cut (group_end ∷ ts) us (leap h w) = let c = cut ts us w in record { mid = c.mid; sum = c.sum; reached = c.reached; front = leap h c.front; back = c.back }
 
 -- The sum is the length of the bytes so far, wherever a walk stands.
-sum_is : {size : ℕ} {to at : Stand} {n s r : ℕ} {ts : List Token} (b : List ℕ) → Walk size to n at s r ts → s ≡ length b → n ≡ length (begun_after b (pieces_in ts))
+sum_is : {size : ℕ} {to : Stand} {n : ℕ} {at : Stand} {s r : ℕ} {ts : List Token} (b : List ℕ) → Walk size to n at s r ts → s ≡ length b → n ≡ length (begun_after b (pieces_in ts))
 unfolding begun_after pieces_in kind_of count_of
 sum_is b stop e = e
 sum_is b (step {p = a_total m} f w) e = sum_is [] w refl
@@ -176,7 +176,7 @@ between_at Inside = b_inside
 between_at AfterLast = b_owed
 between_at Owed = b_owed
 
-still_between : {size : ℕ} {to at : Stand} {n s r : ℕ} (gs : List (List Piece)) → Between at → Walk size to n at s r (grouped gs) → Between to
+still_between : {size : ℕ} {to : Stand} {n : ℕ} (gs : List (List Piece)) {at : Stand} {s r : ℕ} → Between at → Walk size to n at s r (grouped gs) → Between to
 unfolding grouped
 still_between [] b w = subst Between (nowhere w) b
 still_between (g ∷ gs) b w =
@@ -200,7 +200,7 @@ owed_by mid before left (a_start bs) e = let z : ◌≡◌ {A = ℕ} 0 1 = cc in
 owed_by mid before left (a_last q) e = record { before = before; left = left; last_part = q; ends = refl }
 owed_by mid before left (an_entire bs) e = let z : ◌≡◌ {A = ℕ} 0 1 = cc in absurd (omega arith)
 
-behind_piece : {size : ℕ} {to mid : Stand} {n m r : ℕ} {p : Piece} → Walk size to n mid m r (piece p ∷ group_end ∷ []) → stand_at (phase_after (stand_after mid (kind_of p))) ≡ to
+behind_piece : {size : ℕ} {mid : Stand} {m r : ℕ} {p : Piece} {to : Stand} {n : ℕ} → Walk size to n mid m r (piece p ∷ group_end ∷ []) → stand_at (phase_after (stand_after mid (kind_of p))) ≡ to
 behind_piece (step f (leap h w)) = nowhere w
 
 end_in_last : {size n : ℕ} (groups : List (List Piece)) → Walk size Owed n Free 0 0 (grouped groups) → EndInLast groups

@@ -4,21 +4,21 @@ use mathlib.Core.Path.{refl}
 use Rattle.c_reader.proofs.finish.Statement.{statement}
 use Rattle.c_reader.proofs.finish.Tie as tie
 
-accepted : tie.Need-returns
+accepted : tie.Need-returns-in-Accepted
 accepted c =
-    let t = c.before.before in
-    let p = t.before.before.before.before in
-    rw p.before.before.before.done.given.1 (p.put_next.ensures, t.tell.ensures)
+    let t = c in
+    let p = t in
+    rw p.in-Accepted.is (p.put_next.ensures, t.tell.ensures)
 
-repeated : tie.Need-returns-2
+repeated : tie.Need-returns-in-Repeated
 repeated c =
-    let t = c.before.before in
-    rw t.before.before.enum_told.given.1 (refl, t.tell2.ensures)
+    let t = c in
+    rw t.in-Repeated.is (refl, t.tell-in-Repeated.ensures)
 
-refused : tie.Need-returns-3
+refused : tie.Need-returns-in-Refused
 refused c =
-    let t = c.before.before in
-    rw t.before.before.before.done2.given.1 (refl, t.tell3.ensures)
+    let t = c in
+    rw t.in-Refused.is (refl, t.tell-in-Refused.ensures)
 
 pub finish_spec : {M : Type 1} → statement M
 finish_spec =
@@ -26,8 +26,8 @@ finish_spec =
     (tie.spec
     (λ c. search rules)
     (λ c κs.
-    let p = c.before.before.before.before.before.before.requires in
-    (search rules, p.1 _ c.before.before.done.given.1))
+    let p = c.requires in
+    (search rules, p.1 _ c.in-Accepted.is))
     (λ c κs. search rules)
     (λ c. search rules)
     (λ c κs. search rules)

@@ -5,24 +5,24 @@ use Rattle.writer.specs.Calls.{state_of}
 use Rattle.c_writer.proofs.finish.Statement.{statement}
 use Rattle.c_writer.proofs.finish.Tie as tie
 
-finished : tie.Need-returns
+finished : tie.Need-returns-in-Finished
 unfolding state_of
 finished c =
-    let t = c.before.before in
-    let p = t.before.before.before.before in
-    rw p.before.before.before.done.given.1 (p.put-writer.ensures, t.tell.ensures)
+    let t = c in
+    let p = t in
+    rw p.in-Finished.is (p.put_writer.ensures, t.tell.ensures)
 
-closed : tie.Need-returns-2
+closed : tie.Need-returns-in-Closed
 unfolding state_of
 closed c =
-    let t = c.before.before in
-    let p = t.before.before.before.before in
-    rw p.before.before.before.done2.given.1 (p.put-writer2.ensures, t.tell2.ensures)
+    let t = c in
+    let p = t in
+    rw p.in-Closed.is (p.put_writer-in-Closed.ensures, t.tell-in-Closed.ensures)
 
-refused : tie.Need-returns-3
+refused : tie.Need-returns-in-Refused
 refused c =
-    let t = c.before.before in
-    rw t.before.before.before.done3.given.1 (refl, t.tell3.ensures)
+    let t = c in
+    rw t.in-Refused.is (refl, t.tell-in-Refused.ensures)
 
 pub finish_spec : {M : Type 1} → statement M
 finish_spec =

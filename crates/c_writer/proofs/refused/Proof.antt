@@ -11,23 +11,23 @@ use Rattle.c_writer.proofs.refused.Statement.{statement}
 use Rattle.c_writer.proofs.refused.Tie as tie
 
 -- The slices are of their lengths.
-kept : (c : tie.Else1) → lengths_kept (length c.before.before.before.before.args.state.now) writer_length (length c.before.before.before.before.args.answer.now) ≡ true
-kept c = holds c.before.lengths_kept.ensures c.if1.false
+kept : (c : tie.Else-not-lengths_kept) → lengths_kept (length c.before.before.before.before.args.state.now) writer_length (length c.before.before.before.before.args.answer.now) ≡ true
+kept c = holds c.before.lengths_kept.ensures c.if-not-lengths_kept.false
 
-long : (c : tie.Else1) → (length c.before.before.before.before.args.state.now ≡ writer_length) × (length c.before.before.before.before.args.answer.now ≡ answer_length)
+long : (c : tie.Else-not-lengths_kept) → (length c.before.before.before.before.args.state.now ≡ writer_length) × (length c.before.before.before.before.args.answer.now ≡ answer_length)
 long c = lengths _ _ _ (kept c)
 
-by_length : tie.Need-returns
-by_length c = rw (fails c.before.lengths_kept.ensures c.if1.true) (record { refuses = refl; numbers = refl })
+by_length : tie.Need-returns-then-not-lengths_kept
+by_length c = rw (fails c.before.lengths_kept.ensures c.if-not-lengths_kept.true) (record { refuses = refl; numbers = refl })
 
-by-meaning : tie.Need-returns-2
+by-meaning : tie.Need-returns-then-not-writer_meant
 by-meaning c =
     let t = c.before.before in
     let m = t.before.before in
-    rw (kept m.before.before, fails m.before.writer-meant.ensures m.if2.true) (record { refuses = refl; numbers = t.tell.ensures.numbers })
+    rw (kept m.before.before, fails m.before.writer_meant.ensures m.if-not-writer_meant.true) (record { refuses = refl; numbers = t.tell.ensures.numbers })
 
-let_through : tie.Need-returns-3
-let_through c = rw (kept c.before.before, holds c.before.writer-meant.ensures c.if2.false) (record { refuses = refl; numbers = refl })
+let_through : tie.Need-returns
+let_through c = rw (kept c.before.before, holds c.before.writer_meant.ensures c.if-not-writer_meant.false) (record { refuses = refl; numbers = refl })
 
 pub refused_spec : {M : Type 1} → statement M
 refused_spec =

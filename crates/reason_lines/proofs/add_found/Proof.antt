@@ -19,4 +19,4 @@ add_found_spec =
     let three = c.before.before in
     let two = three.before.before.before.before in
     let one = two.before.before.before.before.before in
-    added_then one.add.ensures (added_then two.add-found-words.ensures three.add-byte.ensures)))
+    added_then one.add-said.ensures (added_then two.add_found_words-found.ensures three.add_byte.ensures)))

@@ -21,15 +21,15 @@ add_found_words_spec =
     let three = c.before.before in
     let two = three.before.before.before.before in
     let one = two.before.before.before.before.before in
-    added_as (rw (eq-eqb _ _ one.before.before.if1.true)) (omega arith) (added_then one.add-name.ensures (added_then two.add.ensures three.add-kinds.ensures)))
+    added_as (rw (eq-eqb _ _ one.before.before.if-refusal-eq10.true)) (omega arith) (added_then one.add_name-named.ensures (added_then two.add-said.ensures three.add_kinds.ensures)))
     (λ c κs. search rules)
     (λ c. search rules)
     (λ c.
     let one = c.before.before.before in
-    added_as (rw (ne_eqb _ _ one.before.before.if1.false, eq-eqb _ _ c.if2.true)) (omega arith) (added_then one.add-long.ensures (added_none 0 _ _)))
+    added_as (rw (ne_eqb _ _ one.before.before.if-refusal-eq10.false, eq-eqb _ _ c.if-refusal-eq8.true)) (omega arith) (added_then one.add_long-found.ensures (added_none 0 _ _)))
     (λ c κs. search rules)
     (λ c. search rules)
     (λ c.
     let two = c.before.before in
     let one = two.before.before.before.before.before in
-    added_as (rw (ne_eqb _ _ one.before.before.if1.false, ne_eqb _ _ two.before.before.if2.false)) (omega arith) (added_then one.add-long.ensures two.add-limits.ensures)))
+    added_as (rw (ne_eqb _ _ one.before.before.if-refusal-eq10.false, ne_eqb _ _ two.before.before.if-refusal-eq8.false)) (omega arith) (added_then one.add_long-found.ensures two.add_limits.ensures)))

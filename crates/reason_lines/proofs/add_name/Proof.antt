@@ -10,7 +10,7 @@ pub add_name_spec : {M : Type 1} → statement M
 add_name_spec =
     tie.close
     (tie.spec
-    (λ c. added_as (no_name _ (omega (arith, c.if1.true))) (omega arith) (added_none 0 _ _))
+    (λ c. added_as (no_name _ (omega (arith, c.if-kind-gt7.true))) (omega arith) (added_none 0 _ _))
     (λ c. search rules)
     (λ c κs. search rules)
     (λ c. search rules)

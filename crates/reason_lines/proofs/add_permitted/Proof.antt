@@ -10,8 +10,8 @@ pub add_permitted_spec : {M : Type 1} → statement M
 add_permitted_spec =
     tie.close
     (tie.spec
-    (λ c. added_as (rw (ne_eqb _ _ c.if1.true)) (omega arith) (added_none 0 _ _))
+    (λ c. added_as (rw (ne_eqb _ _ c.if-bit-ne1.true)) (omega arith) (added_none 0 _ _))
     (λ c κs. search rules)
     (λ c κs. search rules)
     (λ c. search rules)
-    (λ c. added_as (rw (eq-eqb _ _ c.before.before.before.before.before.before.before.before.if1.false)) (omega arith) (added_then c.before.before.before.before.before.before.add-byte.ensures c.before.before.add-kind.ensures)))
+    (λ c. added_as (rw (eq-eqb _ _ c.before.before.before.before.before.before.before.before.if-bit-ne1.false)) (omega arith) (added_then c.before.before.before.before.before.before.add_byte-parted.ensures c.before.before.add_kind.ensures)))

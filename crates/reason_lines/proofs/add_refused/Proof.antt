@@ -18,4 +18,4 @@ add_refused_spec =
     let three = c.before.before in
     let two = three.before.before.before.before in
     let one = two.before.before.before.before in
-    added_then one.add-refusal.ensures (added_then two.add-where.ensures three.add-found.ensures)))
+    added_then one.add_refusal-refused.ensures (added_then two.add_where-placed.ensures three.add_found.ensures)))

@@ -24,4 +24,4 @@ add_where_spec =
     let three = four.before.before.before.before in
     let two = three.before.before.before.before.before in
     let one = two.before.before.before.before in
-    added_then one.add-labelled.ensures (added_then two.add-byte-of.ensures (added_then three.add.ensures (added_then four.add-wrong.ensures five.add-byte.ensures)))))
+    added_then one.add_labelled-placed.ensures (added_then two.add_byte_of-reached.ensures (added_then three.add-parted.ensures (added_then four.add_wrong-said.ensures five.add_byte.ensures)))))

@@ -9,8 +9,8 @@ use Rattle.reason_lines.proofs.add_wrong.Statement.{statement}
 use Rattle.reason_lines.proofs.add_wrong.Tie as tie
 
 -- The words end inside all of them.
-inside : (c : tie.After-words-length) → c.before.words-from.result + c.words-length.result ≤ 330
-inside c = let s = stand c.before.before.before.before.before.args.refusal in omega (arith, s.inside, c.before.words-from.ensures, c.words-length.ensures)
+inside : (c : tie.After-words_length) → c.before.words_from-from.result + c.words_length.result ≤ 330
+inside c = let s = stand c.before.before.before.before.before.args.refusal in omega (arith, s.inside, c.before.words_from-from.ensures, c.words_length.ensures)
 
 room : (at few all : ℕ) → at + 40 ≤ all → few ≤ 40 → at + few ≤ all
 room at few all h f = omega arith
@@ -25,8 +25,8 @@ add_wrong_spec =
     (λ c. search rules)
     (λ c. search rules)
     (λ c. inside c.before.before)
-    (λ c κs. room _ _ _ c.before.before.before.before.before.before.before.before.requires (part_few _ _ _ _ c.before.before.before.words-length.ensures))
+    (λ c κs. room _ _ _ c.before.before.before.before.before.before.before.before.requires (part_few _ _ _ _ c.before.before.before.words_length.ensures))
     (λ c. search rules)
     (λ c.
     let w = c.before.before.before.before.before.before in
-    added_as (part_same _ _ _ _ refl w.before.words-from.ensures w.words-length.ensures) (part_few _ _ _ _ w.words-length.ensures) c.before.before.add.ensures))
+    added_as (part_same _ _ _ _ refl w.before.words_from-from.ensures w.words_length.ensures) (part_few _ _ _ _ w.words_length.ensures) c.before.before.add.ensures))
