@@ -41,8 +41,8 @@ record Group (size : ℕ) (ps : List Piece) (g : Image) : Type 0 where
   pub pictured : Pictures size plain ps g
   pub small : Each SmallPiece ps
 
-group_at : {size from number n sum reached : ℕ} {to at : Stand} {g : Image} {ps : List Piece} (beginning rest : List Image) (before behind : List (List Piece)) → length before ≡ length beginning →
-    Run size from number (before ++ (ps ∷ behind)) (beginning ++ (g ∷ rest)) → Walk size to n at sum reached (grouped (before ++ (ps ∷ behind))) → Group size ps g
+group_at : {size n : ℕ} {to : Stand} {g : Image} {ps : List Piece} (beginning rest : List Image) (before behind : List (List Piece)) → length before ≡ length beginning →
+    {from number sum reached : ℕ} {at : Stand} → Run size from number (before ++ (ps ∷ behind)) (beginning ++ (g ∷ rest)) → Walk size to n at sum reached (grouped (before ++ (ps ∷ behind))) → Group size ps g
 unfolding grouped
 group_at {ps} [] rest [] behind e (run_more {plain} a b f r) w = record { plain = plain; pictured = f; small = (past ps (grouped behind) w).small }
 group_at [] rest (qs ∷ before) behind e r w = absurd (omega arith)

@@ -61,6 +61,9 @@ module _ (group : List ℕ) (size : ℕ) where
 
   as_bytes : (n : ℕ) → OwedEarly (entries_below group (size - 32) n) → OwedEarlyIn size n group
   unfolding entries_below
+  as_bytes zero o = elim o [ ]
+  as_bytes (suc zero) o = elim o [ ]
+  as_bytes (suc (suc (suc n))) o = elim o [ ]
   as_bytes (suc (suc zero)) (last_then_skip b c l s h) =
       record { two = refl; last = kind_of_lem _ Last b l; skip = rw second_at at (kind_of_lem (entry_at group (size - 32 - 4 - 4)) Skip c s); early = rw second_at at h }
 

@@ -7,15 +7,15 @@ use Rattle.c_blocks.proofs.Laws.{found}
 use Rattle.c_blocks.proofs.find.Statement.{statement}
 use Rattle.c_blocks.proofs.find.Tie as tie
 
-by_length : tie.Need-returns
+by_length : tie.Need-returns-then-answer-ne-ANSWER_LENGTH
 unfolding dds_blocks_find
-by_length c = stopped _ _ _ _ (ne_eqb _ _ c.if1.true)
+by_length c = stopped _ _ _ _ (ne_eqb _ _ c.if-answer-ne-ANSWER_LENGTH.true)
 
-answers : tie.Need-returns-2
+answers : tie.Need-returns
 answers c =
     let t = c.before.before in
     let d = t.before.before.before in
-    found _ _ _ _ (eq-eqb _ _ d.before.if1.false) d.find.ensures t.before.find-told.ensures t.tell.ensures
+    found _ _ _ _ (eq-eqb _ _ d.before.if-answer-ne-ANSWER_LENGTH.false) d.find-found.ensures t.before.find_told.ensures t.tell.ensures
 
 pub find_spec : {M : Type 1} → statement M
 find_spec =

@@ -9,5 +9,5 @@ find_told_spec =
     (tie.spec
     (λ c. search rules)
     (λ c. search rules)
-    (λ c. rw c.before.found.given.1)
-    (λ c. rw c.enum_told.given.1))
+    (λ c. rw c.in-At.is)
+    (λ c. rw c.in-Elsewhere.is))

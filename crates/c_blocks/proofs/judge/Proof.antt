@@ -14,35 +14,35 @@ use Rattle.c_blocks.proofs.judge.Statement.{statement}
 use Rattle.c_blocks.proofs.judge.Tie as tie
 
 -- The slices are of their lengths.
-kept : (c : tie.Else1) → lengths_kept (length c.before.before.before.before.before.before.args.state.now) blocks_length (length c.before.before.before.before.before.before.args.answer.now) ≡ true
-kept c = holds c.before.lengths_kept.ensures c.if1.false
+kept : (c : tie.Else-not-lengths_kept) → lengths_kept (length c.before.before.before.before.before.before.args.state.now) blocks_length (length c.before.before.before.before.before.before.args.answer.now) ≡ true
+kept c = holds c.before.lengths_kept.ensures c.if-not-lengths_kept.false
 
-long : (c : tie.Else1) → (length c.before.before.before.before.before.before.args.state.now ≡ blocks_length) × (length c.before.before.before.before.before.before.args.answer.now ≡ answer_length)
+long : (c : tie.Else-not-lengths_kept) → (length c.before.before.before.before.before.before.args.state.now ≡ blocks_length) × (length c.before.before.before.before.before.before.args.answer.now ≡ answer_length)
 long c = lengths _ _ _ (kept c)
 
-by-meaning : tie.Need-returns-2
+by-meaning : tie.Need-returns-then-not-reader_meant
 by-meaning c =
     let t = c.before.before in
     let m = t.before.before in
-    laws.not_meant _ _ _ _ _ _ (kept m.before.before.before) (fails m.before.reader-meant.ensures m.if2.true) t.tell.ensures
+    laws.not_meant _ _ _ _ _ _ (kept m.before.before.before) (fails m.before.reader_meant.ensures m.if-not-reader_meant.true) t.tell.ensures
 
-by_size : tie.Need-returns-3
+by_size : tie.Need-returns-then-not-is_block_size
 by_size c =
     let t = c.before.before in
     let b = t.before.before in
     let n = b.before.before in
     let m = n.before in
-    laws.refused_there _ _ _ _ _ _ (kept m.before.before.before) 1 0 (λ z. omega arith) (holds m.before.reader-meant.ensures m.if2.false)
-    (bad_block _ _ _ _ _ _ (rw n.number_at.ensures at (fails b.before.is-block-size.ensures b.if3.true))) t.tell2.ensures
+    laws.refused_there _ _ _ _ _ _ (kept m.before.before.before) 1 0 (λ z. omega arith) (holds m.before.reader_meant.ensures m.if-not-reader_meant.false)
+    (bad_block _ _ _ _ _ _ (rw n.number_at-block.ensures at (fails b.before.is_block_size.ensures b.if-not-is_block_size.true))) t.tell-then-not-is_block_size.ensures
 
-plainly : tie.Need-returns-4
+plainly : tie.Need-returns-then-other-eq0
 plainly c =
     let o = c.before in
     let r = o.before in
     let n = r.before.before.before in
-    laws.goes_on _ _ _ _ _ _ (kept n.before.before.before.before) _ _ _ n.number_at.ensures r.reader-of.ensures o.other_place.ensures c.if4.true
+    laws.goes_on _ _ _ _ _ _ (kept n.before.before.before.before) _ _ _ n.number_at-block.ensures r.reader_of-reader.ensures o.other_place-other.ensures c.if-other-eq0.true
 
-other_length : tie.Need-returns-5
+other_length : tie.Need-returns
 other_length c =
     let t = c.before.before in
     let f = t.before.before in
@@ -50,15 +50,15 @@ other_length c =
     let r = o.before in
     let n = r.before.before.before in
     let m = n.before in
-    laws.other_length _ _ _ _ _ _ (kept m.before.before.before) _ _ _ n.number_at.ensures r.reader-of.ensures o.other_place.ensures f.if4.false
-    (holds m.before.reader-meant.ensures m.if2.false) t.tell3.ensures
+    laws.other_length _ _ _ _ _ _ (kept m.before.before.before) _ _ _ n.number_at-block.ensures r.reader_of-reader.ensures o.other_place-other.ensures f.if-other-eq0.false
+    (holds m.before.reader_meant.ensures m.if-not-reader_meant.false) t.tell-2.ensures
 
 pub judge_spec : {M : Type 1} → statement M
 judge_spec =
     tie.close
     (tie.spec
     (λ c κs. search rules)
-    (λ c. laws.by_length _ _ _ _ _ _ (fails c.before.lengths_kept.ensures c.if1.true))
+    (λ c. laws.by_length _ _ _ _ _ _ (fails c.before.lengths_kept.ensures c.if-not-lengths_kept.true))
     (λ c. search rules)
     (λ c. search rules)
     (λ c. omega (arith, (long c).0))
@@ -72,7 +72,7 @@ judge_spec =
     (λ c. search rules)
     by_size
     (λ c κs. search rules)
-    (λ c κs. holds c.before.before.is-block-size.ensures c.before.if3.false)
+    (λ c κs. holds c.before.before.is_block_size.ensures c.before.if-not-is_block_size.false)
     plainly
     (λ c κs. (long c.before.before.before.before.before.before.before.before.before.before).1)
     (λ c. search rules)

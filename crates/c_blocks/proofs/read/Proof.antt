@@ -8,12 +8,12 @@ use Rattle.c_blocks.proofs.Laws.{plain_call}
 use Rattle.c_blocks.proofs.read.Statement.{statement}
 use Rattle.c_blocks.proofs.read.Tie as tie
 
-plainly : tie.Need-returns-2
+plainly : tie.Need-returns
 plainly c =
     let r = c.before.before.before.before.before.before in
     let l = r.before.before.before.before in
-    let j = l.before.before.before.judge.ensures in
-    plain_call _ _ _ _ _ _ (j.kept l.if1.false) (j.plainly l.if1.false) (r.read.ensures ∙ ap (dds_read _ _ _ _ _) (j.stays l.if1.false))
+    let j = l.before.before.before.judge-refusal.ensures in
+    plain_call _ _ _ _ _ _ (j.kept l.if-refusal-ne0.false) (j.plainly l.if-refusal-ne0.false) (r.read.ensures ∙ ap (dds_read _ _ _ _ _) (j.stays l.if-refusal-ne0.false))
 
 pub read_spec : {M : Type 1} → statement M
 read_spec =
@@ -23,10 +23,10 @@ read_spec =
     (λ c. search rules)
     (λ c. search rules)
     (λ c. search rules)
-    (λ c. c.before.before.before.judge.ensures.refused c.if1.true)
+    (λ c. c.before.before.before.judge-refusal.ensures.refused c.if-refusal-ne0.true)
     (λ c. search rules)
     (λ c. search rules)
-    (λ c. omega (arith, (lengths _ _ _ (c.before.before.before.judge.ensures.kept c.if1.false)).0))
+    (λ c. omega (arith, (lengths _ _ _ (c.before.before.before.judge-refusal.ensures.kept c.if-refusal-ne0.false)).0))
     (λ c κs. search rules)
     (λ c. search rules)
     (λ c. search rules)

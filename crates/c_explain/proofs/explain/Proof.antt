@@ -9,11 +9,11 @@ pub explain_spec : {M : Type 1} → statement M
 explain_spec =
     tie.close
     (tie.spec
-    (λ c. slice_refused _ _ _ _ _ _ c.if1.true)
+    (λ c. slice_refused _ _ _ _ _ _ c.if-explanation-ne-EXPLANATION_LENGTH.true)
     (λ c κs. search rules)
     (λ c κs. search rules)
     (λ c. search rules)
     (λ c.
     let p = c.before.before in
     let x = p.before.before in
-    p.put-explanation.ensures ∙ slice_passed _ _ _ _ _ _ _ x.before.if1.false x.explain-state.ensures))
+    p.put_explanation.ensures ∙ slice_passed _ _ _ _ _ _ _ x.before.if-explanation-ne-EXPLANATION_LENGTH.false x.explain_state-x.ensures))

@@ -11,15 +11,15 @@ explain_state_spec =
     tie.close
     (tie.spec
     (λ c κs. search rules)
-    (λ c. c.no_state.ensures ∙ state_short _ _ _ _ _ c.before.if1.true)
+    (λ c. c.no_state.ensures ∙ state_short _ _ _ _ _ c.before.if-state-ne-READER_LENGTH.true)
     (λ c κs. search rules)
     (λ c κs. search rules)
     (λ c.
     let m = c.before.before in
-    c.no-state2.ensures ∙ state_unmeant _ _ _ _ _ m.before.if1.false (fails m.reader-meant.ensures c.before.if2.true))
+    c.no_state-then-not-reader_meant.ensures ∙ state_unmeant _ _ _ _ _ m.before.if-state-ne-READER_LENGTH.false (fails m.reader_meant.ensures c.before.if-not-reader_meant.true))
     (λ c κs. search rules)
     (λ c κs. search rules)
     (λ c.
     let r = c.before in
     let m = r.before.before in
-    c.of.ensures ∙ state_passed _ _ _ _ _ _ m.before.if1.false (holds m.reader-meant.ensures r.before.if2.false) r.reader-of.ensures))
+    c.of.ensures ∙ state_passed _ _ _ _ _ _ m.before.if-state-ne-READER_LENGTH.false (holds m.reader_meant.ensures r.before.if-not-reader_meant.false) r.reader_of-reader.ensures))

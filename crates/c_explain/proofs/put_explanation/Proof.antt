@@ -16,7 +16,7 @@ returns c =
     let c2 = c3.before.before.before.before.before in
     let c1 = c2.before.before.before.before.before in
     let s = c1.before.before.before.before in
-    rw (c7.put-eight7.ensures, c6.put-eight6.ensures, c5.put-eight5.ensures, c4.put-eight4.ensures, c3.put-eight3.ensures, c2.put-eight2.ensures, c1.put-eight.ensures) (ap (explains s.args.x.refusal) (eights_whole s.args.slice.now (explanation_numbers s.args.x) s.requires))
+    rw (c7.put_eight-7.ensures, c6.put_eight-6.ensures, c5.put_eight-5.ensures, c4.put_eight-4.ensures, c3.put_eight-3.ensures, c2.put_eight-2.ensures, c1.put_eight.ensures) (ap (explains s.args.x.refusal) (eights_whole s.args.slice.now (explanation_numbers s.args.x) s.requires))
 
 pub put_explanation_spec : {M : Type 1} → statement M
 put_explanation_spec =

@@ -6,9 +6,9 @@ use Rattle.reason_lines.specs.Lines.{limits}
 use Rattle.words.proofs.AddedLaws.{added_as, added_then}
 use Rattle.reason_lines.proofs.add_limits.Goals as goal
 
-pub shape_of-text-then-why : goal.shape_of-text-then-why
+pub returns-then-why : goal.returns-then-why
 unfolding limits
-shape_of-text-then-why c =
+returns-then-why c =
     added_as (rw (lt-leb _ _ c.if-why.true)) (omega arith) c.add.ensures
 
 pub returns : goal.returns
