@@ -115,7 +115,7 @@ module _ (block : ℕ) (size_kept_lem : block_size_kept block ≡ true) where
 
   pub own : {state final : List ℕ} {run : List Image} {loans : List Loan} {rows : List (List ℕ)} → ToEndBlocksC state run loans rows final → (s : Reader) → sound s ≡ true → state ≡ both s block →
       OwnBlocks block s run loans rows final
-  own ToEndBlocksC.end_None s h e = record { last = s; reads = ToEndBlocks.end_None; plain_reads = ToEndC.end_None; sound_last = h; bytes = sym e }
+  own ToEndBlocksC.end_none s h e = record { last = s; reads = ToEndBlocks.end_none; plain_reads = ToEndC.end_none; sound_last = h; bytes = sym e }
   own (ToEndBlocksC.end_more {g = g} {loan = loan} {o = o} d n z a) s h e =
       let d' : made_of block size_kept_lem s h g loan ≡ o = ap (λ (x : List ℕ). dds_blocks_read x g.bytes g.number g.entries loan.rows loan.answer) (sym e) ∙ d in
       let zero = ap (λ (x : Left). x.refusal) d' ∙ n in
@@ -160,8 +160,8 @@ module _ (block : ℕ) (size_kept_lem : block_size_kept block ≡ true) where
 
   pub through : {s t : Reader} {run : List Image} {lent rows : List (List ℕ)} {loans : List Loan} → ToEndBlocks block s run lent rows t → sound s ≡ true → Answering loans → lent ≡ numbers_lent loans →
       ToEndBlocksC (both s block) run loans rows (both t block)
-  through ToEndBlocks.end_None h Answering.answers_none e = ToEndBlocksC.end_None
-  through ToEndBlocks.end_None h (Answering.answers_more l r) e = let z : ◌≡◌ {A = ℕ} 0 1 = cc in absurd (omega arith)
+  through ToEndBlocks.end_none h Answering.answers_none e = ToEndBlocksC.end_none
+  through ToEndBlocks.end_none h (Answering.answers_more l r) e = let z : ◌≡◌ {A = ℕ} 0 1 = cc in absurd (omega arith)
   through (ToEndBlocks.end_more old e a) h Answering.answers_none q = let z : ◌≡◌ {A = ℕ} 0 1 = cc in absurd (omega arith)
   through (ToEndBlocks.end_more {s} {t} {g = g} {lent = lent} old e a) h (Answering.answers_more {loan = loan} {loans = loans} l r) q =
       let same : old ≡ numbers_in loan.rows = cc in

@@ -125,7 +125,7 @@ again s g loan h e n z =
 
 to_end : {state final : List ℕ} {run : List Image} {loans : List Loan} {rows : List (List ℕ)} → ToEndC state run loans rows final → (s : Reader) → sound s ≡ true → state ≡ slice s →
     OwnToEnd s run loans rows final
-to_end ToEndC.end_None s h e = record { last = s; reads = ToEnd.end_None; sound_last = h; bytes = sym e }
+to_end ToEndC.end_none s h e = record { last = s; reads = ToEnd.end_none; sound_last = h; bytes = sym e }
 to_end (ToEndC.end_more {g = g} {loan = loan} d n z a) s h e =
     let k = stepped s g loan h (ap (λ (x : List ℕ). dds_read x g.bytes g.number g.entries loan.rows loan.answer) (sym e) ∙ d) n z in
     end_more k (to_end a k.next k.sound_next k.left_state)
@@ -173,13 +173,13 @@ one_before Reads {loan = loan} listed reads r =
       goes_on = r.goes_on;
     }
 
-pub split : {state final : List ℕ} {loans : List Loan} {rows : List (List ℕ)} (a b : List Image) → AcceptsC state (a ++ b) loans rows final → SplitC AcceptsC state a b loans rows final
-split {state} {loans = loans} {rows = rows} [] b x =
+pub split : {final : List ℕ} (a b : List Image) {state : List ℕ} {loans : List Loan} {rows : List (List ℕ)} → AcceptsC state (a ++ b) loans rows final → SplitC AcceptsC state a b loans rows final
+split [] b {state} {loans} {rows} x =
     record { lent = []; later = loans; before = []; behind = rows; middle = state; loans_are = refl; rows_are = refl; reads = AcceptsC.accepts_none; goes_on = x }
 split (g ∷ a) b (AcceptsC.accepts_more {o = o} e n z x) = one_before AcceptsC (numbers_in (rows_read o) ∷ []) (λ lent before middle y. AcceptsC.accepts_more e n z y) (split a b x)
 
-pub split_end : {state final : List ℕ} {loans : List Loan} {rows : List (List ℕ)} (a b : List Image) → ToEndC state (a ++ b) loans rows final → SplitC ToEndC state a b loans rows final
-split_end {state} {loans = loans} {rows = rows} [] b x =
-    record { lent = []; later = loans; before = []; behind = rows; middle = state; loans_are = refl; rows_are = refl; reads = ToEndC.end_None; goes_on = x }
+pub split_end : {final : List ℕ} (a b : List Image) {state : List ℕ} {loans : List Loan} {rows : List (List ℕ)} → ToEndC state (a ++ b) loans rows final → SplitC ToEndC state a b loans rows final
+split_end [] b {state} {loans} {rows} x =
+    record { lent = []; later = loans; before = []; behind = rows; middle = state; loans_are = refl; rows_are = refl; reads = ToEndC.end_none; goes_on = x }
 split_end (g ∷ a) b (ToEndC.end_more {o = o} e n z x) = one_before ToEndC (numbers_in (rows_read o) ∷ []) (λ lent before middle y. ToEndC.end_more e n z y) (split_end a b x)
 split_end (g ∷ a) b (ToEndC.end_repeat e n z x) = one_before ToEndC [] (λ lent before middle y. ToEndC.end_repeat e n z y) (split_end a b x)

@@ -186,8 +186,8 @@ long_enough s t g loan old same e =
 
 reads_through : {s t : Reader} {run : List Image} {lent rows : List (List ℕ)} {loans : List Loan} → ToEnd s run lent rows t → sound s ≡ true → Answering loans →
     lent ≡ numbers_lent loans → ToEndC (slice s) run loans rows (slice t)
-reads_through ToEnd.end_None h answers_none e = ToEndC.end_None
-reads_through ToEnd.end_None h (answers_more l r) e = let z : ◌≡◌ {A = ℕ} 0 1 = cc in absurd (omega arith)
+reads_through ToEnd.end_none h answers_none e = ToEndC.end_none
+reads_through ToEnd.end_none h (answers_more l r) e = let z : ◌≡◌ {A = ℕ} 0 1 = cc in absurd (omega arith)
 reads_through (ToEnd.end_more old e a) h answers_none q = let z : ◌≡◌ {A = ℕ} 0 1 = cc in absurd (omega arith)
 reads_through (ToEnd.end_more {s} {t} {g = g} {lent = lent} old e a) h (answers_more {loan = loan} {loans = loans} l r) q =
     let same : old ≡ numbers_in loan.rows = cc in
@@ -203,7 +203,7 @@ pub through_to_end : {s t : Reader} {run : List Image} {rows : List (List ℕ)} 
 through_to_end a h l = reads_through a h (answering l) refl
 
 pub sound_to_end : {s t : Reader} {run : List Image} {lent rows : List (List ℕ)} → ToEnd s run lent rows t → sound s ≡ true → sound t ≡ true
-sound_to_end ToEnd.end_None h = h
+sound_to_end ToEnd.end_none h = h
 sound_to_end (ToEnd.end_more {s} {t} {g = g} old e a) h = sound_to_end a (sound_again s t g.bytes g.number g.entries (length old) e)
 sound_to_end (ToEnd.end_repeat old e a) h = sound_to_end a h
 

@@ -20,6 +20,6 @@ tell_start_spec =
     (λ c. search rules)
     (λ c κs. search rules)
     (λ c κs. search rules)
-    (λ c. let begun = c.before.before.before in tells (start_step_lem _ _ _ _ _ begun.before.pair-at.ensures begun.start.ensures c.before.reader.given.1) (omega arith) (added_none 0 _ 0) refl)
+    (λ c. let begun = c in tells (start_step_lem _ _ _ _ _ begun.pair_at-first.ensures begun.start.ensures c.in-Started.is) (omega arith) (added_none 0 _ 0) refl)
     (λ c. search rules)
-    (λ c. let begun = c.before.before.before.before.before.before.before.before.before in tells_as (start_off _ _ _ _ _ _ begun.before.pair-at.ensures begun.start.ensures c.before.before.before.before.before.before.before.refusal.given.1 c.before.before.before.before.of.ensures) c.before.before.tell-refused.ensures))
+    (λ c. let begun = c in tells_as (start_off _ _ _ _ _ _ begun.pair_at-first.ensures begun.start.ensures c.in-Refused.is c.of.ensures) c.tell_refused.ensures))
