@@ -4,6 +4,6 @@
 
 use programs::Program;
 
-fn main() {
-    runfile::run(Program::Explainer)
+fn main(rt: HostRuntime) {
+    runfile::run(Program::Explainer, &mut rt.stdin(), &mut rt.stdout())
 }

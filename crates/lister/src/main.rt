@@ -4,6 +4,6 @@
 
 use programs::Program;
 
-fn main() {
-    runfile::run(Program::Lister)
+fn main(rt: HostRuntime) {
+    runfile::run(Program::Lister, &mut rt.stdin(), &mut rt.stdout())
 }
