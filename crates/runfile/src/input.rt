@@ -1,5 +1,6 @@
 // What is read from standard input: no byte more than is asked for, and the sections as far as they are in range.
-// No contract can say what standard input has; here is said of what is read what `sections` says of any bytes.
+// No contract can say what standard input holds; here is said of it what `sections` says of any bytes. Of a reader whose bytes are known
+// it is said besides that what is read whole is what it loses.
 ghost use Rattle.std.specs.Prelude.{◌≡◌, ◌≤◌, length, true};
 ghost use Rattle.std.specs.Io.KnownBytes.{Consumes};
 ghost use Rattle.sections.specs.Sections.{longest_sections, Within};
@@ -7,7 +8,7 @@ ghost use Rattle.sections.specs.Sections.{longest_sections, Within};
 use sections::Sections;
 use std::io::Read;
 
-// Fills all of `bytes` from the input, and no more is taken from it. False where the input ends before, or a read fails.
+// Fills all of `bytes` from the input, and no more is taken from it. False where the input ends before, or where a read fails.
 pub fn read_whole<R: Read>(stdin: &mut R, bytes: &mut [u8]) -> bool
     ensures { result ≡ true → Consumes (R.remaining stdin.old) (R.remaining stdin.new) bytes.new }
 {

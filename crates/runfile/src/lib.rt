@@ -1,6 +1,7 @@
 // A run file read from standard input, step by step: what each step needs is read, what the program tells of it is written, until one stops
 // the run. After a refusal no more is read. After the last image one byte is asked for, which must not be there. Both programs are this,
-// and differ in what they tell.
+// and differ in what they tell. `main` hands in the two streams. A read that fails is taken as the end of the input; a write that fails
+// stops the run.
 #![tactic(auto)]
 
 pub mod input;

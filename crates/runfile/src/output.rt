@@ -1,4 +1,5 @@
-// What is written to standard output: each step's text in one write. What it is, is proved in `telling` and `explaining`.
+// What is written to standard output: each step's text in one write. What it is, is proved in `telling` and `explaining`. No contract can
+// say what reaches standard output; of a writer whose bytes are known it is said that it gains the text.
 ghost use Rattle.std.specs.Prelude.{◌≡◌, ◌≤◌, length, take, true};
 ghost use Rattle.std.specs.Io.KnownBytes.{Appends};
 
