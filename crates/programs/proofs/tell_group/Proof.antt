@@ -14,6 +14,6 @@ tell_group_spec =
     (λ c. search rules)
     (λ c κs. search rules)
     (λ c. search rules)
-    (λ c. tells_as (group_of_lem _ _ _ _ _ _ _ c.before.before.before.before.enum_told.given.1) c.before.before.tell-group.ensures)
+    (λ c. tells_as (group_of_lem _ _ _ _ _ _ _ c.in-Lister.is) c.tell_group.ensures)
     (λ c. search rules)
-    (λ c. tells_as (group_of_lem _ _ _ _ _ _ _ c.before.before.before.before.enum-told2.given.1) c.before.before.tell-group2.ensures))
+    (λ c. tells_as (group_of_lem _ _ _ _ _ _ _ c.in-Explainer.is) c.tell_group-in-Explainer.ensures))

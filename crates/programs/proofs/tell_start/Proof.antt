@@ -14,6 +14,6 @@ tell_start_spec =
     (λ c. search rules)
     (λ c κs. search rules)
     (λ c. search rules)
-    (λ c. tells_as (start_of_lem _ _ _ _ c.before.before.before.before.enum_told.given.1) c.before.before.tell-start.ensures)
+    (λ c. tells_as (start_of_lem _ _ _ _ c.in-Lister.is) c.tell_start.ensures)
     (λ c. search rules)
-    (λ c. tells_as (start_of_lem _ _ _ _ c.before.before.before.before.enum-told2.given.1) c.before.before.tell-start2.ensures))
+    (λ c. tells_as (start_of_lem _ _ _ _ c.in-Explainer.is) c.tell_start-in-Explainer.ensures))
