@@ -1,13 +1,18 @@
 # `make` proves every crate, builds the library, its header and both programs into target/, and shows the main job; `make check` is
 # the quick check of an edit; `make test` is the gate; `make bench` puts the library beside plain C; `make dist` packs archive,
-# header and documents into one tar file, for those who have no toolchain.
-.PHONY: all library layout check test bench dist clean always
+# header and documents into one tar file, for those who have no toolchain; `make fmt` lays out the files of every crate.
+.PHONY: all library fmt pages check test bench dist clean always
 archive = target/staticlib/libdds.a
 lister = target/bin/lister
 explainer = target/bin/explainer
 
-# all that rt reads, folders too, so that a file that went counts; the edits that must be refused are no part of what is built
-sources := $(shell find crates -name must-fail -prune -o -print) crates.txt
+# all that rt reads, folders too, so that a file that went counts; neither the edits that must be refused nor what rt keeps in out/
+# is part of what is built
+sources := $(shell find crates -mindepth 2 \( -name must-fail -o -name out \) -prune -o -print) crates.txt
+
+# how many crates are proved side by side: one a processor, while each has 3 GB of memory
+side_by_side := $(shell n=$$(nproc); m=$$(awk '/^MemAvailable/ { print int($$2 / 3000000) }' /proc/meminfo); \
+    echo $$((m < 1 ? 1 : m < n ? m : n)))
 
 all: library
 	@echo
@@ -18,36 +23,38 @@ library: $(lister) $(explainer) $(archive) target/dds.h
 # what was built by another toolchain is built again
 toolchain := $(shell rt version)
 ifneq ($(toolchain),$(shell cat target/toolchain 2>/dev/null))
-$(lister): always
+target/proved: always
 endif
 
-# rt check passes over a crate that has not changed; what it does not link again is given its time here
-$(lister): $(sources)
-	@[ -f $@ ] || rm -f target/stamp/lister
-	tests/notes rt check
-	@touch $@
+# every crate, the lowest first; of a crate that has not changed the proofs of before hold
+target/proved: $(sources)
+	tests/notes check rt all check --jobs $(side_by_side)
+	@mkdir -p target
 	@echo '$(toolchain)' >target/toolchain
-
-# rt check builds both programs
-$(explainer): $(lister)
-	@[ -f $@ ] || { rm -f target/stamp/explainer; tests/notes rt check explainer; }
 	@touch $@
 
-# rt staticlib proves dds again each time, so it is asked only where something has changed
-$(archive): $(lister)
-	tests/notes rt staticlib dds
-	@touch $@
+$(archive): target/proved
+	tests/build dds $@
+
+$(lister): target/proved
+	tests/build lister $@
+
+$(explainer): target/proved
+	tests/build explainer $@
 
 target/dds.h: include/dds.h
 	@mkdir -p target
 	cp include/dds.h $@
 
-layout:
-	rt fmt --check
+# rt ci refuses a file that is not laid out
+fmt:
+	@for crate in crates/*/; do (cd "$$crate" && rt fmt) || exit 1; done
+
+pages:
 	tests/edits check
 	tests/names
 
-check: layout library
+check: pages library
 	tests/symbols $(archive)
 	tests/costs $(archive)
 	tests/lister/run $(lister)
