@@ -16,14 +16,18 @@ PATIENCE = 20.0
 
 
 def command(program):
-    """The words that start a program, which is compiled for x86-64: on another processor the kit's emulator runs it."""
+    """The words that start a program, which is compiled for x86-64: on another processor an emulator runs it, the kit's
+    own where it has one, on the kit's C library."""
     program = os.path.abspath(program)
     if platform.machine() == 'x86_64':
         return [program]
     kit = os.environ.get('RATTLE_HOME') or os.path.dirname(os.path.dirname(os.path.realpath(shutil.which('rt'))))
     tools = os.path.join(kit, 'on', platform.machine(), 'toolchain')
-    loader = os.path.join(tools, 'lib', 'ld-linux-x86-64.so.2')
-    return [os.path.join(tools, 'bin', 'qemu-x86_64'), loader, '--library-path', os.path.join(tools, 'lib'), program]
+    emulator = os.path.join(tools, 'bin', 'qemu-x86_64')
+    if not os.path.exists(emulator):
+        emulator, tools = shutil.which('qemu-x86_64') or 'qemu-x86_64', os.path.join(kit, 'toolchain')
+    libraries = os.path.join(tools, 'lib')
+    return [emulator, os.path.join(libraries, 'ld-linux-x86-64.so.2'), '--library-path', libraries, program]
 
 
 def ran(words, out, **given):
