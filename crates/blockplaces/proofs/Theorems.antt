@@ -19,7 +19,7 @@ use Rattle.seek.specs.Find.{find_call}
 use Rattle.layout.specs.Items.{Item, Piece, Each, tokens, grouped}
 use Rattle.layout.specs.Layout.{Image, Pictures, Run, Lays, data_of, user_data, entries_of}
 use Rattle.layout.specs.Layout.Run.{run_more}
-use Rattle.layout.proofs.Assembled.{pieces_in, flat, in-grouped}
+use Rattle.layout.proofs.Assembled.{pieces_in, flat, in_grouped}
 use Rattle.layout.proofs.Grammar.{Walk, tail_stand, tail_sum}
 use Rattle.layout.proofs.Decode.{SmallPiece, adds_up, entries_back}
 use Rattle.layout.proofs.Complete.{past, walk_of}
@@ -31,7 +31,7 @@ use Rattle.blockplaces.proofs.Places.{rows_begun, block_in, counted_in_lem, one_
 -- The first bytes of a run's records are those of the pieces with which blocks begin.
 heads_read : {size first : ℕ} {i : List Item} {b : List ℕ} {run : List Image} (l : Lays size first i b run) → Heads (firsts (flat l.groups)) (records_of i ++ opened b)
 heads_read {i} {b} l =
-    let e : pieces_in (tokens l.laid l.tail) ≡ flat l.groups = ap pieces_in l.groups_of ∙ in-grouped l.groups in
+    let e : pieces_in (tokens l.laid l.tail) ≡ flat l.groups = ap pieces_in l.groups_of ∙ in_grouped l.groups in
     let h = heads_of_tokens l.laid l.tail l.sound l.sound_tail in
     rw (e, l.finishes, l.breaks) at h
 

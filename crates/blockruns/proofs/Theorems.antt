@@ -25,7 +25,7 @@ use Rattle.layout.specs.Repeats.{without_repeats, OfSize}
 use Rattle.layout.specs.Accepting.{ToEnd, LentAmong}
 use Rattle.layout.specs.Reading.{OfBytes, items_read, begun_read}
 use Rattle.layout.specs.Writing.{Account, Wrote}
-use Rattle.layout.proofs.Assembled.{pieces_in, flat, in-grouped}
+use Rattle.layout.proofs.Assembled.{pieces_in, flat, in_grouped}
 use Rattle.layout.proofs.Complete.{walk_of}
 use Rattle.layout.proofs.OnlyOne.{buffers_for, enough}
 use Rattle.layout.proofs.Repeats.{lent_among}
@@ -56,7 +56,7 @@ use Rattle.blockruns.proofs.ThroughC.{both, reader_is, block_is, own, through}
 
 -- The lengths that a layout's pieces tell are those of its finished records.
 lengths_read : {size first : ℕ} {i : List Item} {b : List ℕ} {run : List Image} (l : Lays size first i b run) → lengths_of (flat l.groups) ≡ record_lengths i
-lengths_read l = ap lengths_of (sym (in-grouped l.groups) ∙ ap pieces_in (sym l.groups_of)) ∙ lengths_of_tokens l.laid l.tail ∙ ap record_lengths l.finishes
+lengths_read l = ap lengths_of (sym (in_grouped l.groups) ∙ ap pieces_in (sym l.groups_of)) ∙ lengths_of_tokens l.laid l.tail ∙ ap record_lengths l.finishes
 
 -- .. so its groups keep the rule of a block just where its records have the block size.
 records_kept : {size first block : ℕ} {i : List Item} {b : List ℕ} {run : List Image} → Lays size first i b run → Each (Kept block size) run → Each (OfLength block) i

@@ -17,7 +17,7 @@ use Rattle.reader.proofs.Sound.{sound_again}
 use Rattle.layout.specs.Layout.{Image}
 use Rattle.blocks.specs.Answer.{block_size_kept, blocks_read_call}
 use Rattle.blocks.proofs.Judged.{accepts_plainly, repeats_plainly}
-use Rattle.slices.specs.Call.{Left, left, outcome_seen, answer_length}
+use Rattle.slices.specs.Call.{Left, outcome_seen, answer_length}
 use Rattle.states.specs.States.{reader_of}
 use Rattle.c_reader.specs.Calls.{dds_read, rows_read}
 use Rattle.c_reader.specs.Accepted.{repeat_left}

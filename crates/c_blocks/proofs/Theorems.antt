@@ -18,7 +18,7 @@ use Rattle.reader.specs.Answer.{fresh, start_told, read_call, told}
 use Rattle.blocks.specs.Answer.{blocks_start_refusal, blocks_start_call, blocks_read_call}
 use Rattle.blocks.proofs.Judged.{either}
 use Rattle.slices.specs.Call.{left, lengths_kept, of_meaning, called}
-use Rattle.slices.proofs.Calls.{returns-zero, meant_zero}
+use Rattle.slices.proofs.Calls.{returns_zero, meant_zero}
 use Rattle.states.specs.States.{reader_of, reader_meant}
 use Rattle.c_reader.proofs.Theorems.{start_told_lem}
 use Rattle.c_reader.specs.Calls.{dds_read, reader_left, rows_read}
@@ -45,7 +45,7 @@ pub blocks_start_zero : (size first block : ℕ) (state answer : List ℕ) →
     ((dds_blocks_start size first block state answer).refusal ≡ 0) ↔ ((lengths_kept (length state) blocks_length (length answer) ≡ true) × (blocks_start_call size first block ≡ start.Started (fresh size first)))
 unfolding dds_blocks_start blocks_start_call
 blocks_start_zero size first block state answer =
-    let r = returns-zero _ (start_told (blocks_start_call size first block)) _ _ answer in (
+    let r = returns_zero _ (start_told (blocks_start_call size first block)) _ _ answer in (
       λ e. let z = r.0 e in (z.0, start_told_lem (blocks_start_refusal size first block) (fresh size first) z.1),
       λ a. r.1 (a.0, ap (λ (x : ReaderStart). refusal_told (start_told x)) a.1),
     )
@@ -59,7 +59,7 @@ module _ (state group : List ℕ) (number n : ℕ) (rows answer : List ℕ) wher
   unfolding dds_blocks_read
   blocks_returned e =
       let own : ReadAnswer = blocks_read_call (block_of state) (reader_of (reader_part state)) group number n (length rows / 4) in
-      let z = (returns-zero _ (of_meaning (reader_meant (reader_part state)) (told own)) _ _ answer).0 e in
+      let z = (returns_zero _ (of_meaning (reader_meant (reader_part state)) (told own)) _ _ answer).0 e in
       let y = (meant_zero (reader_meant (reader_part state)) (told own)).0 z.1 in
       (z.0, by y.1 (either (block_of state) (reader_of (reader_part state)) group number n (length rows / 4)))
     where

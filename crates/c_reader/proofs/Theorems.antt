@@ -24,7 +24,7 @@ use Rattle.reader.proofs.Accepted as own_read
 use Rattle.reader.proofs.Refused.{read_refuses, read_not_zero}
 use Rattle.reader.specs.Refused.{RefusedRead}
 use Rattle.slices.specs.Call.{Left, outcome_seen, lengths_kept, of_meaning, called}
-use Rattle.slices.proofs.Calls.{leaves, returns-zero, meant_zero}
+use Rattle.slices.proofs.Calls.{leaves, returns_zero, meant_zero}
 use Rattle.states.specs.States.{reader_length, reader_of, reader_bytes, reader_meant}
 use Rattle.c_reader.specs.Calls.{dds_reader_start, state_left, dds_read, reader_left, rows_read}
 use Rattle.c_reader.specs.Accepted.{StartAccepted, ReadAccepted, ReadRepeated, repeat_left, ReadRefused}
@@ -42,7 +42,7 @@ start_told_lem refusal s e = by (eqb refusal 0) refl e
 pub start_returns_zero : (size first : ℕ) (state answer : List ℕ) → ((dds_reader_start size first state answer).refusal ≡ 0) ↔ StartAccepted size first state answer
 unfolding dds_reader_start reader_start_call
 start_returns_zero size first state answer =
-    let r = returns-zero _ (start_told (reader_start_call size first)) _ _ answer in (
+    let r = returns_zero _ (start_told (reader_start_call size first)) _ _ answer in (
       λ e. let z = r.0 e in record { kept = z.0; starts = start_told_lem (start_refusal size first) (fresh size first) z.1 },
       λ a. r.1 (a.kept, ap (λ (x : ReaderStart). refusal_told (start_told x)) a.starts),
     )
@@ -69,7 +69,7 @@ module _ (state group : List ℕ) (number n : ℕ) (rows answer : List ℕ) wher
   pub read_returns_zero : ((dds_read state group number n rows answer).refusal ≡ 0) ↔ (ReadAccepted state group number n rows answer ⊎ ReadRepeated state group number answer)
   unfolding dds_read
   read_returns_zero =
-      let r = returns-zero _ (of_meaning (reader_meant state) (told own)) _ _ answer in
+      let r = returns_zero _ (of_meaning (reader_meant state) (told own)) _ _ answer in
       let m = meant_zero (reader_meant state) (told own) in (
         λ e.
             let z = r.0 e in
@@ -86,7 +86,7 @@ module _ (state group : List ℕ) (number n : ℕ) (rows answer : List ℕ) wher
 
       zero : ReadAccepted state group number n rows answer ⊎ ReadRepeated state group number answer → (dds_read state group number n rows answer).refusal ≡ 0
       zero (inl a) =
-          (returns-zero _ (of_meaning (reader_meant state) (told own)) _ _ answer).1
+          (returns_zero _ (of_meaning (reader_meant state) (told own)) _ _ answer).1
           (a.kept, (meant_zero (reader_meant state) (told own)).1 (a.meant, ap (λ (x : ReadAnswer). refusal_told (told x)) a.accepts))
       zero (inr e) = ap (λ (o : Left). o.refusal) (read_repeated e)
 

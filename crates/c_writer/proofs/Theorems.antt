@@ -25,7 +25,7 @@ use Rattle.writer.specs.Calls.Call.{a_record, a_separator, an_end}
 use Rattle.writer.proofs.Left.{Left, record_left, separator_left, end_left}
 use Rattle.writer.proofs.Theorems.{information_stays}
 use Rattle.slices.specs.Call.{of_meaning, called, lengths_kept}
-use Rattle.slices.proofs.Calls.{returns-zero, meant_zero}
+use Rattle.slices.proofs.Calls.{returns_zero, meant_zero}
 use Rattle.states.specs.States.{writer_length, b4_set, b4_meant, writer_of, writer_bytes, writer_meant}
 use Rattle.c_writer.specs.Calls.{dds_writer_start, written, dds_record, dds_separator, dds_end}
 use Rattle.c_writer.specs.Accepted.{StartAccepted, Accepts, CallAccepted, InformationStays}
@@ -44,7 +44,7 @@ start_told_lem size first e = by (eqb (start_refusal size first) 0) refl e
 pub start_returns_zero : (size first : ℕ) (state answer : List ℕ) → ((dds_writer_start size first state answer).refusal ≡ 0) ↔ StartAccepted size first state answer
 unfolding dds_writer_start
 start_returns_zero size first state answer =
-    let r = returns-zero _ (start_told (writer_start_call size first)) _ _ answer in (
+    let r = returns_zero _ (start_told (writer_start_call size first)) _ _ answer in (
       λ e. let z = r.0 e in record { kept = z.0; starts = start_told_lem size first z.1 },
       λ a. r.1 (a.kept, ap (λ (x : WriterStart). refusal_told (start_told x)) a.starts),
     )
@@ -82,7 +82,7 @@ module _ (state group : List ℕ) (warn : ℕ) (answer : List ℕ) where
   call_zero : (c : Call) → ((written (own c) state group warn answer).refusal ≡ 0) ↔ CallAccepted (own c) state warn answer
   unfolding written
   call_zero c =
-      let r = returns-zero _ (of_meaning (writer_meant state && b4_meant warn) (told (own c).answer)) _ _ answer in
+      let r = returns_zero _ (of_meaning (writer_meant state && b4_meant warn) (told (own c).answer)) _ _ answer in
       let m = meant_zero (writer_meant state && b4_meant warn) (told (own c).answer) in (
         λ e.
             let z = r.0 e in

@@ -1,7 +1,7 @@
 -- Change request 2026-07: "The reason must be proved true: the rule is broken there by those numbers and every earlier rule holds." When
 -- an explanation is true, with no word of how it is found.
 -- Assumes nothing.
-use Rattle.std.specs.Prelude.{ℕ, suc, ◌+◌, ◌-◌, ◌/◌, ◌≤◌, List, [], ◌∷◌, ◌++◌, true, false, ◌≡◌, length}
+use Rattle.std.specs.Prelude.{ℕ, suc, ◌-◌, ◌/◌, ◌≤◌, List, [], ◌∷◌, ◌++◌, true, false, ◌≡◌, length}
 use Rattle.group.specs.declared.Entry.{Entry}
 use Rattle.group.specs.Sizes.{information_length, entries_kept, entry_offset}
 use Rattle.group.specs.Flags.{meaning_of}

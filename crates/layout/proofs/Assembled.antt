@@ -31,10 +31,10 @@ unfolding pieces_in
 in_map [] ts = refl
 in_map (p ∷ ps) ts = ap {B = List Piece} (λ r. p ∷ r) (in_map ps ts)
 
-pub in-grouped : (gs : List (List Piece)) → pieces_in (grouped gs) ≡ flat gs
+pub in_grouped : (gs : List (List Piece)) → pieces_in (grouped gs) ≡ flat gs
 unfolding pieces_in grouped flat
-in-grouped [] = refl
-in-grouped (ps ∷ gs) = in_map ps (group_end ∷ grouped gs) ∙ ap {B = List Piece} (λ r. ps ++ r) (in-grouped gs)
+in_grouped [] = refl
+in_grouped (ps ∷ gs) = in_map ps (group_end ∷ grouped gs) ∙ ap {B = List Piece} (λ r. ps ++ r) (in_grouped gs)
 
 -- Middles only add their bytes.
 items_middles : (b : List ℕ) (ps : List (List ℕ)) (ts : List Token) → items_after b (pieces_in (middles ps ts)) ≡ items_after (b ++ joined ps) (pieces_in ts)
@@ -47,21 +47,21 @@ unfolding begun_after pieces_in middles joined
 begun_middles b [] ts = rw append-nil
 begun_middles b (p ∷ ps) ts = rw (begun_middles (b ++ p) ps ts, append_assoc)
 
-in-late : (l : Bool) (ts : List Token) → pieces_in (late_by l ts) ≡ pieces_in ts
+in_late : (l : Bool) (ts : List Token) → pieces_in (late_by l ts) ≡ pieces_in ts
 unfolding pieces_in late_by
-in-late true ts = refl
-in-late false ts = refl
+in_late true ts = refl
+in_late false ts = refl
 
 -- A spanned record's bytes, whatever its total says.
 items_spanned : (p : List ℕ) (ps : List (List ℕ)) (q : List ℕ) (l : Bool) (n : ℕ) (ts : List Token) →
     items_after p (pieces_in (middles ps (piece (a_last q) ∷ late_by l (piece (a_total n) ∷ ts)))) ≡ record_item (whole_of p ps q) ∷ items_after [] (pieces_in ts)
 unfolding items_after pieces_in whole_of
-items_spanned p ps q l n ts = rw (items_middles p ps (piece (a_last q) ∷ late_by l (piece (a_total n) ∷ ts)), in-late)
+items_spanned p ps q l n ts = rw (items_middles p ps (piece (a_last q) ∷ late_by l (piece (a_total n) ∷ ts)), in_late)
 
 begun_spanned : (p : List ℕ) (ps : List (List ℕ)) (q : List ℕ) (l : Bool) (n : ℕ) (ts : List Token) →
     begun_after p (pieces_in (middles ps (piece (a_last q) ∷ late_by l (piece (a_total n) ∷ ts)))) ≡ begun_after [] (pieces_in ts)
 unfolding begun_after pieces_in
-begun_spanned p ps q l n ts = rw (begun_middles p ps (piece (a_last q) ∷ late_by l (piece (a_total n) ∷ ts)), in-late)
+begun_spanned p ps q l n ts = rw (begun_middles p ps (piece (a_last q) ∷ late_by l (piece (a_total n) ∷ ts)), in_late)
 
 pub items_of_tokens : (ls : List Laid) (t : Tail) → items_after [] (pieces_in (tokens ls t)) ≡ items ls
 unfolding items_after pieces_in tokens items tail_tokens whole_of
@@ -97,7 +97,7 @@ phase_middles (p ∷ ps) ts = phase_middles ps ts
 phase_spanned : (ps : List (List ℕ)) (q : List ℕ) (l : Bool) (n : ℕ) (ts : List Token) →
     phase_after Inside (pieces_in (middles ps (piece (a_last q) ∷ late_by l (piece (a_total n) ∷ ts)))) ≡ phase_after Free (pieces_in ts)
 unfolding phase_after pieces_in
-phase_spanned ps q l n ts = rw (phase_middles ps (piece (a_last q) ∷ late_by l (piece (a_total n) ∷ ts)), in-late)
+phase_spanned ps q l n ts = rw (phase_middles ps (piece (a_last q) ∷ late_by l (piece (a_total n) ∷ ts)), in_late)
 
 pub phase_of_tokens : (ls : List Laid) (t : Tail) → phase_after Free (pieces_in (tokens ls t)) ≡ phase_of_tail t
 unfolding phase_after pieces_in tokens tail_tokens

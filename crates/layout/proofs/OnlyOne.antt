@@ -27,7 +27,7 @@ use Rattle.layout.specs.Accepting.Accepts.{accepts_none, accepts_more}
 use Rattle.layout.specs.Accepting.Lent.{lent_none, lent_more}
 use Rattle.layout.specs.Reading.{pieces_from, pieces_of, items_read, begun_read}
 use Rattle.layout.proofs.Grammar.{Walk}
-use Rattle.layout.proofs.Assembled.{pieces_in, flat, in-grouped, items_of_tokens, begun_of_tokens}
+use Rattle.layout.proofs.Assembled.{pieces_in, flat, in_grouped, items_of_tokens, begun_of_tokens}
 use Rattle.layout.proofs.Decode.{pieces_back}
 use Rattle.layout.proofs.Complete.{past, walk_of, complete_to}
 
@@ -64,7 +64,7 @@ pub pieces_laid : {size first : ℕ} {i : List Item} {b : List ℕ} {run : List 
     (l : Lays size first i b run) → Accepts (fresh size first) run rows final → pieces_of run rows ≡ pieces_in (tokens l.laid l.tail)
 pieces_laid {size} l a =
     let (least, most) = within 64 size 126632 l.sized in
-    pieces_read (omega arith) refl l.images (walk_of l) a ∙ sym (in-grouped l.groups) ∙ ap pieces_in (sym l.groups_of)
+    pieces_read (omega arith) refl l.images (walk_of l) a ∙ sym (in_grouped l.groups) ∙ ap pieces_in (sym l.groups_of)
 
 -- .. which give its items and bytes so far.
 pub reading_is : {size first : ℕ} {i : List Item} {b : List ℕ} {run : List Image} {rows : List (List ℕ)} {final : Reader} →

@@ -35,7 +35,7 @@ use Rattle.layout.specs.Reading.{OfBytes, items_after, begun_after, items_read, 
 use Rattle.layout.proofs.Grammar.{Walk, Between, Found, walk_found}
 use Rattle.layout.proofs.Grammar.Walk.{stop}
 use Rattle.layout.proofs.Grammar.Between.{b_free, b_inside, b_owed}
-use Rattle.layout.proofs.Assembled.{pieces_in, flat, in-grouped, items_of_tokens, begun_of_tokens}
+use Rattle.layout.proofs.Assembled.{pieces_in, flat, in_grouped, items_of_tokens, begun_of_tokens}
 use Rattle.layout.proofs.Decode.{length_entries}
 use Rattle.layout.proofs.OnlyOne.{pieces_read}
 use Rattle.layout.proofs.Unscanned.{Pictured, none_plain, unscan}
@@ -141,7 +141,7 @@ pub lays_run : {size plain first n : ℕ} {groups : List (List Piece)} {run : Li
     Walk size (stand_at f) n Free 0 0 (grouped groups) → Lays size first (items_after [] (flat groups)) (begun_after [] (flat groups)) run
 lays_run {size} {plain} {groups} h k f r w =
     let found : Found size (grouped groups) = walk_found size (between_groups f) w in
-    let e : flat groups ≡ pieces_in (tokens found.laid found.tail) = sym (in-grouped groups) ∙ ap pieces_in (sym found.shows) in
+    let e : flat groups ≡ pieces_in (tokens found.laid found.tail) = sym (in_grouped groups) ∙ ap pieces_in (sym found.shows) in
     record {
       sized = h;
       numbered = k;

@@ -24,7 +24,7 @@ use Rattle.layout.specs.Reading.{begun_after}
 use Rattle.layout.specs.Writing.{Account, Wrote}
 use Rattle.layout.specs.WritingStated.{begun_in, TotalStands, EndInLast, TotalsKept}
 use Rattle.layout.specs.WritingStated.TotalStands.{in-its-group, first_in_next, still_owed}
-use Rattle.layout.proofs.Assembled.{pieces_in, flat, in-grouped}
+use Rattle.layout.proofs.Assembled.{pieces_in, flat, in_grouped}
 use Rattle.layout.proofs.Grammar.{Fits, Walk, Between}
 use Rattle.layout.proofs.Grammar.Between.{b_free, b_inside, b_owed}
 use Rattle.layout.proofs.Grammar.Walk.{stop, step, leap}
@@ -146,7 +146,7 @@ last_total a f groups before after left right q hand w b e =
     ap grouped e ∙ grouped_cut before after left right (a_last q) in
     let one = cut (grouped before) (map piece left ++ (piece (a_last q) ∷ (map piece right ++ (group_end ∷ grouped after)))) (rw tokens at w) in
     let two = cut (map piece left) (piece (a_last q) ∷ (map piece right ++ (group_end ∷ grouped after))) one.back in
-    let begun : begun_after [] (pieces_in (grouped before)) ≡ begun_in [] before = rw (in-grouped before, begun_in_lem [] before) in
+    let begun : begun_after [] (pieces_in (grouped before)) ≡ begun_in [] before = rw (in_grouped before, begun_in_lem [] before) in
     let first : one.sum ≡ length (begun_in [] before) = sum_is [] one.front refl ∙ ap length begun in
     let second : two.sum ≡ length (begun_after (begun_in [] before) left) =
     sum_is (begun_in [] before) two.front first ∙ ap (λ (ps : List Piece). length (begun_after (begun_in [] before) ps)) (pieces_map left) in

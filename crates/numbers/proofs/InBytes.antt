@@ -17,17 +17,17 @@ unfolding in_bytes
 length_in_bytes [] = refl
 length_in_bytes (n ∷ ns) = simp length-append (omega (arith, length_bytes 4 n, length_in_bytes ns))
 
-pub in-bytes-append : (ns ms : List ℕ) → in_bytes (ns ++ ms) ≡ in_bytes ns ++ in_bytes ms
+pub in_bytes_append : (ns ms : List ℕ) → in_bytes (ns ++ ms) ≡ in_bytes ns ++ in_bytes ms
 unfolding in_bytes
-in-bytes-append [] ms = refl
-in-bytes-append (n ∷ ns) ms = rw (in-bytes-append ns ms, append_assoc)
+in_bytes_append [] ms = refl
+in_bytes_append (n ∷ ns) ms = rw (in_bytes_append ns ms, append_assoc)
 
 -- What is stored after so many bytes of numbers.
 pub put_more : (rows : List ℕ) (i j : ℕ) (ns ms : List ℕ) → j ≡ i + 4 * length ns → put (put rows i (in_bytes ns)) j (in_bytes ms) ≡ put rows i (in_bytes (ns ++ ms))
 put_more rows i j ns ms e =
     ap (λ (k : ℕ). put (put rows i (in_bytes ns)) k (in_bytes ms)) (e ∙ ap (λ (n : ℕ). i + n) (sym (length_in_bytes ns)))
     ∙ put_put rows i (in_bytes ns) (in_bytes ms)
-    ∙ ap (put rows i) (sym (in-bytes-append ns ms))
+    ∙ ap (put rows i) (sym (in_bytes_append ns ms))
 
 -- A number's four bytes are the bytes of a list of one.
 one : (n : ℕ) → bytes_of 4 n ≡ in_bytes (n ∷ [])

@@ -10,12 +10,10 @@ use Rattle.group.specs.declared.Phase.{Phase}
 use Rattle.group.specs.declared.Phase.TheVariants as phase
 use Rattle.group.proofs.StateLaws.{Run, sound_of_run}
 use Rattle.reader.specs.declared.Reader.{Reader}
-use Rattle.entry.specs.declared.Stand.TheVariants.{Free, Inside, Owed}
 use Rattle.reader.specs.declared.ReadAnswer.TheVariants as answer
 use Rattle.entry.specs.Rules.{stand_at, phase_after}
 use Rattle.reader.specs.Answer.{sound, opening, group_scan, read_call}
 use Rattle.entry.proofs.Suits.{suits_scan}
-use Rattle.entry.proofs.Faults.{kept}
 use Rattle.reader.proofs.Accepted.{accepted}
 
 phase_again : (p : Phase) → phase_after (stand_at p) ≡ p

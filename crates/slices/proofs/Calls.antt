@@ -120,11 +120,11 @@ c_answers false told new old answer e =
     record { tells = λ h. absurd (true≢false (sym h)); long = λ h. absurd (true≢false (sym h)); stays = λ h. ap (λ (p : Left). p.answer) e }
 
 -- "Each call returns the number, 0 if accepted": 0 just where the lengths are kept and what is told is 0.
-pub returns-zero : (kept : Bool) (told : Told) (new old : List (List ℕ)) (answer : List ℕ) →
+pub returns_zero : (kept : Bool) (told : Told) (new old : List (List ℕ)) (answer : List ℕ) →
     ((called kept told new old answer).refusal ≡ 0) ↔ ((kept ≡ true) × (refusal_told told ≡ 0))
 unfolding called
-returns-zero true told new old answer = (λ e. (refl, e), λ p. p.1)
-returns-zero false told new old answer = (λ e. absurd (omega arith), λ p. absurd (true≢false (sym p.0)))
+returns_zero true told new old answer = (λ e. (refl, e), λ p. p.1)
+returns_zero false told new old answer = (λ e. absurd (omega arith), λ p. absurd (true≢false (sym p.0)))
 
 -- .. and of a number that has no meaning.
 pub meant_zero : (meant : Bool) (told : Told) → (refusal_told (of_meaning meant told) ≡ 0) ↔ ((meant ≡ true) × (refusal_told told ≡ 0))

@@ -1,7 +1,7 @@
 -- Document 01, "Bench program", with change request 2026-05: what is printed at each step of a run, and how the run goes on after
 -- it.
 -- Assumes nothing.
-use Rattle.std.specs.Prelude.{ℕ, ◌+◌, ◌*◌, ◌≡◌, List, [], Bool, cond, length}
+use Rattle.std.specs.Prelude.{ℕ, ◌+◌, ◌*◌, ◌≡◌, List, [], Bool, cond}
 use Rattle.words.specs.Added.{Added}
 use Rattle.lines.specs.Text.{group_lines, repeat_line, refusal_line, end_line, bad_line}
 use Rattle.reader.specs.declared.Reader.{Reader}

@@ -1,5 +1,4 @@
 -- `read_whole` meets its contract: a length, a meaning, or what the read answers. Assumes nothing.
-use borrow.Author.Rules.{rules}
 use mathlib.Core.Path.{◌≡◌, sym, ap, ◌∙◌}
 use mathlib.Core.Bool.{true}
 use Prim.Native.Nat.{◌+◌}

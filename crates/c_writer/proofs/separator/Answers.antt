@@ -1,5 +1,4 @@
 -- `separator` meets its contract: what the slices refuse, or what the call answers. Assumes nothing.
-use borrow.Author.Rules.{rules}
 use mathlib.Core.Path.{◌≡◌}
 use lib.ListN.{length}
 use Rattle.slices.specs.Call.{answer_length}

@@ -1,5 +1,4 @@
 -- `count_fault` meets its contract, kind by kind. Assumes nothing.
-use borrow.Author.Rules.{rules}
 use borrow.Author.Tests.{le-leb, lt-leb}
 use Rattle.counts.proofs.Counts.{total_kept, total_differs}
 use Rattle.counts.proofs.count_fault.Goals as goal

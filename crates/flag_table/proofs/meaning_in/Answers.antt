@@ -1,5 +1,4 @@
 -- `meaning_in` meets its contract: what the code of a flag stands for. Assumes nothing.
-use borrow.Author.Rules.{rules}
 use native.Mathlib.Omega.{arith}
 use mathlib.Core.Path.{ap, ◌∙◌}
 use Rattle.group.specs.declared.Meaning.TheVariants.{Known}

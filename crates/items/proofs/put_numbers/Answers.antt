@@ -1,15 +1,14 @@
 -- `put_numbers` meets its contract: a place's number a turn. Assumes nothing.
-use borrow.Author.Rules.{rules}
 use mathlib.Core.Path.{◌≡◌, ◌∙◌}
 use mathlib.Core.List.{List, []}
-use Prim.Native.Nat.{ℕ, ◌+◌, ◌*◌, ◌-◌, ◌/◌, ◌%◌}
+use Prim.Native.Nat.{ℕ, ◌+◌, ◌*◌, ◌/◌, ◌%◌}
 use native.Mathlib.Omega.{arith}
 use lib.ListN.{get_or}
 use Rattle.numbers.specs.Store.{put}
 use Rattle.numbers.specs.Numbers.{bytes_of}
 use Rattle.numbers.proofs.NumberLaws.{length_bytes}
 use Rattle.items.specs.Items.{contents, row_of, item_number, numbers_of}
-use Rattle.items.proofs.Turns.{Wide, Filled, filled_none, filled_turn, filled_done}
+use Rattle.items.proofs.Turns.{Wide, filled_none, filled_turn, filled_done}
 use Rattle.items.proofs.put_numbers.Invariants.{told}
 use Rattle.items.proofs.put_numbers.Goals as goal
 

@@ -1,5 +1,4 @@
 -- `add_bad` meets its contract: the words and the newline as they are. Assumes nothing.
-use borrow.Author.Rules.{rules}
 use Rattle.lines.specs.Text.{bad_line}
 use Rattle.lines.proofs.add_bad.Goals as goal
 

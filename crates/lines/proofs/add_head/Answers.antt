@@ -1,5 +1,4 @@
 -- `add_head` meets its contract: its parts, one after the other. Assumes nothing.
-use borrow.Author.Rules.{rules}
 use Rattle.lines.specs.Text.{group_line}
 use Rattle.words.proofs.AddedLaws.{added_then}
 use Rattle.lines.proofs.add_head.Goals as goal

@@ -1,5 +1,4 @@
 -- `add_refusal` meets its contract: its parts, one after the other. Assumes nothing.
-use borrow.Author.Rules.{rules}
 use Rattle.lines.specs.Text.{refusal_line}
 use Rattle.words.proofs.AddedLaws.{added_then}
 use Rattle.lines.proofs.add_refusal.Goals as goal

@@ -1,5 +1,4 @@
 -- `add_byte_of` meets its contract: by whether there is an entry. Assumes nothing.
-use borrow.Author.Rules.{rules}
 use native.Mathlib.Omega.{arith}
 use borrow.Author.Tests.{eq-eqb, ne_eqb}
 use Rattle.reason_lines.specs.Lines.{byte_of}

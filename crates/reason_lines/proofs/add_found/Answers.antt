@@ -1,5 +1,4 @@
 -- `add_found` meets its contract: its parts, one after the other. Assumes nothing.
-use borrow.Author.Rules.{rules}
 use Rattle.reason_lines.specs.Lines.{found_line}
 use Rattle.words.proofs.AddedLaws.{added_then}
 use Rattle.reason_lines.proofs.add_found.Goals as goal

@@ -1,5 +1,4 @@
 -- `add_found_words` meets its contract: a kind, a flag, or another number. Assumes nothing.
-use borrow.Author.Rules.{rules}
 use native.Mathlib.Omega.{arith}
 use borrow.Author.Tests.{eq-eqb, ne_eqb}
 use Rattle.reason_lines.specs.Lines.{found_words}

@@ -1,5 +1,4 @@
 -- `add_kinds` meets its contract: none, or kind by kind. Assumes nothing.
-use borrow.Author.Rules.{rules}
 use native.Mathlib.Omega.{arith}
 use borrow.Author.Tests.{eq-eqb, ne_eqb}
 use Rattle.reason_lines.specs.Lines.{permitted_names}

@@ -1,5 +1,4 @@
 -- `add_limits` meets its contract: by whether any number is allowed. Assumes nothing.
-use borrow.Author.Rules.{rules}
 use native.Mathlib.Omega.{arith}
 use borrow.Author.Tests.{le-leb, lt-leb}
 use Rattle.reason_lines.specs.Lines.{limits}

@@ -1,5 +1,4 @@
 -- `add_where` meets its contract: its parts, one after the other. Assumes nothing.
-use borrow.Author.Rules.{rules}
 use Rattle.reason_lines.specs.Lines.{where_line}
 use Rattle.words.proofs.AddedLaws.{added_then}
 use Rattle.reason_lines.proofs.add_where.Goals as goal

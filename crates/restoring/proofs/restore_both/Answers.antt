@@ -1,10 +1,7 @@
 -- `restore_both` meets its contract: the columns below c are done, the rest are as they were. Assumes nothing.
-use borrow.Author.Rules.{rules}
 use mathlib.Core.Path.{◌∙◌}
-use Prim.Native.Nat.{◌-◌, ◌≤◌}
 use native.Mathlib.Omega.{arith}
-use Rattle.column.specs.Column.{restored_two}
-use Rattle.restoring.proofs.Places.{Upto, upto_none, upto_next, upto_all}
+use Rattle.restoring.proofs.Places.{upto_none, upto_next, upto_all}
 use Rattle.restoring.proofs.restore_both.Goals as goal
 
 pub loop-c-init : goal.loop-c-init

@@ -1,5 +1,4 @@
 -- `restore_in` meets its contract. Assumes nothing.
-use borrow.Author.Rules.{rules}
 use Rattle.restoring.proofs.Places.{turn_one}
 use Rattle.restoring.proofs.restore_in.Goals as goal
 

@@ -1,12 +1,8 @@
 -- `beginning_among` meets its contract: what the rows that are left give is what all of them give. Assumes nothing.
-use borrow.Author.Rules.{rules}
-use mathlib.Core.Path.{◌≡◌, refl, sym, ap, ◌∙◌}
-use mathlib.Core.List.{List}
-use Prim.Native.Nat.{ℕ, ◌+◌, ◌*◌, ◌/◌, ◌≤◌}
+use mathlib.Core.Path.{refl, sym, ap, ◌∙◌}
 use native.Mathlib.Omega.{arith}
-use lib.ListN.{length}
 use Rattle.seek.specs.declared.Beginning.TheVariants.{At}
-use Rattle.seek.specs.Find.{begins, beginning}
+use Rattle.seek.specs.Find.{begins}
 use Rattle.seek.proofs.Turns.{none_left, passes, counts, begins_here}
 use Rattle.seek.proofs.beginning_among.Goals as goal
 use Rattle.seek.proofs.beginning_among.Goals.{then-begins+else-still-eq0, else-begins}

@@ -1,5 +1,4 @@
 -- `tell` meets its contract, case by case. Assumes nothing.
-use borrow.Author.Rules.{rules}
 use mathlib.Core.Path.{refl}
 use Rattle.slices.proofs.tell.Goals as goal
 

@@ -1,5 +1,4 @@
 -- `keep` meets its contract: a number that stands there already is as if it were stored. Assumes nothing.
-use borrow.Author.Rules.{rules}
 use mathlib.Core.Path.{sym, ◌∙◌}
 use native.Mathlib.Omega.{arith}
 use Rattle.numbers.proofs.InBytes.{put_standing}

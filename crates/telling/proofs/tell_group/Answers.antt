@@ -1,6 +1,4 @@
 -- `tell_group` meets its contract: by whether the input had all of the image. Assumes nothing.
-use borrow.Author.Rules.{rules}
-use borrow.Author.Tests.{not-false, not-true}
 use Rattle.telling.proofs.TellingLaws.{tells_as, group_short, group_whole}
 use Rattle.telling.proofs.tell_group.Goals as goal
 

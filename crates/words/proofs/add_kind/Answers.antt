@@ -1,5 +1,4 @@
 -- `add_kind` meets its contract: what is added is the part of all names where the kind's stands. Assumes nothing.
-use borrow.Author.Rules.{rules}
 use Prim.Native.Nat.{ℕ, ◌+◌, ◌≤◌}
 use mathlib.Core.Path.{refl}
 use native.Mathlib.Omega.{arith}

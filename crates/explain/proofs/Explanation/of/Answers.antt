@@ -1,5 +1,4 @@
 -- `Explanation::of` meets its contract: a repeat, the refusal before the scan, or how the scan ended. Assumes nothing.
-use borrow.Author.Rules.{rules}
 use mathlib.Core.Path.{◌≡◌, sym, ap, ◌∙◌}
 use Prim.Native.Nat.{◌/◌}
 use native.Mathlib.Omega.{arith}

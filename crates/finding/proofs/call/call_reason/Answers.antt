@@ -1,5 +1,4 @@
 -- `call_reason` meets its contract: the reason of each number. Assumes nothing.
-use borrow.Author.Rules.{rules}
 use borrow.Author.Tests.{ne_eqb}
 use Rattle.reasons.specs.Reasons.{call_reason}
 use Rattle.finding.proofs.call.call_reason.Goals as goal

@@ -1,5 +1,4 @@
 -- `entry_reason` meets its contract: the reason of each rule's number. Assumes nothing.
-use borrow.Author.Rules.{rules}
 use borrow.Author.Tests.{ne_eqb}
 use Rattle.reasons.specs.Reasons.{entry_reason}
 use Rattle.finding.proofs.entries.entry_reason.Goals as goal

@@ -1,5 +1,4 @@
 -- `fit` meets its contract: each signed test is the test that `fit_of` makes. Assumes nothing.
-use borrow.Author.Rules.{rules}
 use native.Mathlib.Omega.{arith}
 use mathlib.Core.Path.{◌≡◌, ap, ◌∙◌}
 use mathlib.Core.Bool.{true}

@@ -1,5 +1,4 @@
 -- `Reader::judge` meets its contract: the refusal before the scan, or what the scan gives. Assumes nothing.
-use borrow.Author.Rules.{rules}
 use mathlib.Core.Path.{◌≡◌, sym, ap, ◌∙◌}
 use Prim.Native.Nat.{ℕ, ◌-◌}
 use native.Mathlib.Omega.{arith}

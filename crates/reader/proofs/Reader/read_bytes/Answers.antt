@@ -1,5 +1,4 @@
 -- `Reader::read_bytes` meets its contract: the judgement, and the rows' bytes where it accepts. Assumes nothing.
-use borrow.Author.Rules.{rules}
 use mathlib.Core.Path.{sym, ◌∙◌}
 use Prim.Native.Nat.{◌/◌}
 use native.Mathlib.Omega.{arith}

@@ -1,5 +1,4 @@
 -- `Track::make` meets its contract: the judgement, and the track and the numbers where it accepts. Assumes nothing.
-use borrow.Author.Rules.{rules}
 use mathlib.Core.Path.{sym, ◌∙◌}
 use lib.ListN.{length}
 use Rattle.header.proofs.TakenApart.{area_small}

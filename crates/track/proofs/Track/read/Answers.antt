@@ -1,5 +1,4 @@
 -- `Track::read` meets its contract: the judgement, and what the track holds where it accepts. Assumes nothing.
-use borrow.Author.Rules.{rules}
 use mathlib.Core.Path.{sym, ◌∙◌}
 use lib.ListN.{length}
 use Rattle.track.proofs.Judged.{ReadKept, read_kept}

@@ -1,5 +1,4 @@
 -- `read_refusal` meets its contract: both lengths, the reserved bytes, and what the others refuse. Assumes nothing.
-use borrow.Author.Rules.{rules}
 use mathlib.Core.Path.{sym, ◌∙◌}
 use native.Mathlib.Omega.{arith}
 use lib.Seq.{length-take-le}

@@ -1,5 +1,4 @@
 -- `record_free` meets its contract, by the fit. Assumes nothing.
-use borrow.Author.Rules.{rules}
 use native.Mathlib.Omega.{arith}
 use mathlib.Core.Path.{◌≡◌, sym, ap, ◌∙◌, subst}
 use lib.Seq.{length-take-le}
