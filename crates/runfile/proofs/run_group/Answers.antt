@@ -1,5 +1,5 @@
--- `run_group` stops where what is told could not be written. Assumes nothing.
-use Rattle.std.proofs.Common.{ℕ, refl, false, replicate}
+-- `run_group` has room for what is told, and stops where that could not be written. Assumes nothing.
+use Rattle.std.proofs.Common.{ℕ, refl, false, replicate, arith}
 use Rattle.std.proofs.lemmas.List.{length-replicate}
 use Rattle.reader.specs.declared.Reader.{Reader}
 use Rattle.sections.specs.declared.Pair.{Pair}
@@ -19,3 +19,6 @@ stopped Explainer i s size pair = record { whole = false; image = replicate size
 
 pub returns-then-not-say : goal.returns-then-not-say
 returns-then-not-say g c = stopped _ _ _ _ _
+
+pub tell_group-said-requires : goal.tell_group-said-requires
+tell_group-said-requires g c = (omega arith, (omega arith, omega arith))
