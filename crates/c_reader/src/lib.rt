@@ -73,8 +73,8 @@ fn read_whole(
     finish(state, answer, done)
 }
 
-// The same. Two calls share it, and the first of them should take no longer for that: the group is lent on as a part, the whole
-// of it, so that the compiler hands over its two words in registers, as C does, and the call from C is a jump.
+// The same, which two calls share. The group is lent on as a part, the whole of it. That says no more than the group itself, and the
+// compiler makes the same code of both.
 pub fn read(
     state: &mut [u8],
     group: &[u8],
