@@ -2,8 +2,8 @@
 -- Assumes nothing.
 use Rattle.std.specs.Prelude.{ℕ, zero, suc, ◌+◌, ◌-◌, ◌/◌, ◌%◌, ◌^◌, ◌≤◌, ◌<◌, ◌≡◌, List, [], ◌∷◌, ◌++◌, Bool, true, false, cond, eqb, length, get_or}
 use Rattle.numbers.specs.Numbers.{number_at, bytes_of}
-use Rattle.answer.specs.declared.Told.{Told}
-use Rattle.answer.specs.declared.Told.TheVariants as answer
+use Rattle.answer.specs.Answer.{Told}
+use Rattle.answer.specs.Answer as answer
 use Rattle.answer.specs.Answer.{if_accepted}
 use Rattle.alert.specs.declared.AlertAnswer.{AlertAnswer}
 use Rattle.alert.specs.declared.AlertAnswer.TheVariants.{Counted, Refused}

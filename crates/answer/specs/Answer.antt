@@ -2,8 +2,12 @@
 -- returns, and what it leaves in a slice that it may write.
 -- Assumes nothing.
 use Rattle.std.specs.Prelude.{ℕ, List, [], ◌∷◌}
-use Rattle.answer.specs.declared.Told.{Told}
-use Rattle.answer.specs.declared.Told.TheVariants.{Accepted, RefusedAt}
+
+-- What every call tells: that it is accepted, with its outcome and three numbers more, or that it is refused, with the number of the
+-- refusal and the place.
+pub data Told : Type 0 where
+  Accepted : (outcome number entries taken : ℕ) → Told
+  RefusedAt : (refusal place : ℕ) → Told
 
 -- An accepted call that has no more to tell.
 abbrev pub accepted : Told

@@ -1,2 +1,3 @@
--- What a reader of this crate must believe: the six numbers of an answer, and what a refusal leaves.
+-- What a reader of this crate must believe: the six numbers of an answer, the numbers of the refusals, and what a refusal leaves.
 pub mod Answer
+pub mod Refusals

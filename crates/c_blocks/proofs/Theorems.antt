@@ -6,8 +6,8 @@ use mathlib.Core.Logic.{◌↔◌, ◌⊎◌, inl, inr}
 use mathlib.Core.Bool.{Bool, true, false}
 use mathlib.Core.List.{List, [], ◌∷◌}
 use lib.ListN.{length}
-use Rattle.answer.specs.declared.Told.{Told}
-use Rattle.answer.specs.declared.Told.TheVariants.{Accepted, RefusedAt}
+use Rattle.answer.specs.Answer.{Told}
+use Rattle.answer.specs.Answer.{Accepted, RefusedAt}
 use Rattle.answer.specs.Answer.{refusal_told}
 use Rattle.reader.specs.declared.Reader.{Reader}
 use Rattle.reader.specs.declared.ReaderStart.{ReaderStart}

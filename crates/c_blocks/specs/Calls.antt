@@ -3,8 +3,8 @@
 -- Assumes nothing.
 use Rattle.std.specs.Prelude.{ℕ, ◌/◌, List, [], ◌∷◌, ◌++◌, length, take, drop}
 use Rattle.numbers.specs.Numbers.{number_at, bytes_of, in_bytes, field}
-use Rattle.answer.specs.declared.Told.{Told}
-use Rattle.answer.specs.declared.Told.TheVariants.{Accepted}
+use Rattle.answer.specs.Answer.{Told}
+use Rattle.answer.specs.Answer.{Accepted}
 use Rattle.answer.specs.Answer.{accepted}
 use Rattle.reader.specs.Answer.{fresh, start_told, told, group_rows, rows_left}
 use Rattle.blocks.specs.Answer.{blocks_start_call, blocks_read_call}

@@ -4,7 +4,7 @@ use mathlib.Core.Path.{◌≡◌}
 use mathlib.Core.Bool.{true}
 use mathlib.Core.List.{List, [], ◌∷◌}
 use Prim.Native.Nat.{ℕ}
-use Rattle.answer.specs.declared.Told.{Told}
+use Rattle.answer.specs.Answer.{Told}
 use Rattle.volume.specs.declared.VolumeAnswer.{VolumeAnswer}
 use Rattle.alert.specs.declared.AlertAnswer.{AlertAnswer}
 use Rattle.radio.specs.declared.RadioAnswer.{RadioAnswer}

@@ -10,7 +10,7 @@ use borrow.Author.Tests.{eq-eqb, eqb-true}
 use lib.Dec.{eqb}
 use lib.ListN.{length}
 use Rattle.numbers.specs.Numbers.{number_at, in_bytes, field}
-use Rattle.answer.specs.declared.Told.{Told}
+use Rattle.answer.specs.Answer.{Told}
 use Rattle.answer.specs.Answer.{numbers_told, refusal_told}
 use Rattle.volume.specs.declared.VolumeAnswer.{VolumeAnswer}
 use Rattle.volume.specs.Information.{fields_of, length_and_thickness, thickness, make_refusal, read_refusal, answer_of, told, refusal_of, Makes, Reads}

@@ -6,7 +6,7 @@ use mathlib.Core.List.{List, [], ◌∷◌}
 use Prim.Native.Nat.{ℕ, ◌/◌}
 use lib.ListN.{length}
 use Rattle.numbers.specs.Numbers.{in_bytes}
-use Rattle.answer.specs.declared.Told.TheVariants.{RefusedAt}
+use Rattle.answer.specs.Answer.{RefusedAt}
 use Rattle.answer.specs.Answer.{if_accepted}
 use Rattle.reader.specs.declared.Reader.{Reader}
 use Rattle.reader.specs.declared.ReadAnswer.{ReadAnswer}

@@ -11,7 +11,7 @@ use lib.Dec.{eqb}
 use lib.ListN.{length}
 use Rattle.numbers.specs.Numbers.{number_at, bytes_of, in_bytes}
 use Rattle.numbers.specs.Store.{put}
-use Rattle.answer.specs.declared.Told.{Told}
+use Rattle.answer.specs.Answer.{Told}
 use Rattle.answer.specs.Answer.{numbers_told, refusal_told, if_accepted}
 use Rattle.group.specs.State.{start_refusal}
 use Rattle.reader.specs.declared.Reader.{Reader}

@@ -4,7 +4,7 @@ use mathlib.Core.Path.{◌≡◌}
 use mathlib.Core.Bool.{true}
 use mathlib.Core.List.{List, [], ◌∷◌}
 use Prim.Native.Nat.{ℕ}
-use Rattle.answer.specs.declared.Told.{Told}
+use Rattle.answer.specs.Answer.{Told}
 use Rattle.third.specs.declared.ThirdAnswer.{ThirdAnswer}
 use Rattle.column.specs.Column.{Column}
 use Rattle.third.specs.Answer.{Checks, told, Does}

@@ -4,7 +4,7 @@ use mathlib.Core.Path.{◌≡◌}
 use mathlib.Core.Bool.{true}
 use mathlib.Core.List.{List, [], ◌∷◌}
 use Prim.Native.Nat.{ℕ}
-use Rattle.answer.specs.declared.Told.{Told}
+use Rattle.answer.specs.Answer.{Told}
 use Rattle.track.specs.declared.TrackAnswer.{TrackAnswer}
 use Rattle.track.specs.Answer.{told, Makes, Reads}
 use Rattle.slices.specs.Call.{left, answer_kept, Tells}

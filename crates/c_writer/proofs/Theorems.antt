@@ -9,8 +9,8 @@ use native.Mathlib.Omega.{arith}
 use borrow.Author.Tests.{eqb-true, eqb-false}
 use lib.Dec.{eqb}
 use lib.ListN.{length}
-use Rattle.answer.specs.declared.Told.{Told}
-use Rattle.answer.specs.declared.Told.TheVariants.{Accepted, RefusedAt}
+use Rattle.answer.specs.Answer.{Told}
+use Rattle.answer.specs.Answer.{Accepted, RefusedAt}
 use Rattle.answer.specs.Answer.{refusal_told, if_accepted}
 use Rattle.group.specs.State.{start_refusal}
 use Rattle.laying.specs.declared.WriterStart.{WriterStart}

@@ -12,8 +12,8 @@ use Rattle.numbers.specs.Numbers.{between}
 use Rattle.numbers.proofs.Tests.{is_within}
 use Rattle.group.specs.declared.Entry.{Entry}
 use Rattle.group.specs.Flags.{meaning_of}
-use Rattle.answer.specs.declared.Told.{Told}
-use Rattle.answer.specs.declared.Told.TheVariants.{Accepted, RefusedAt}
+use Rattle.answer.specs.Answer.{Told}
+use Rattle.answer.specs.Answer.{Accepted, RefusedAt}
 use Rattle.entry.specs.declared.Cursor.{Cursor}
 use Rattle.entry.specs.declared.ScanEnd.{ScanEnd}
 use Rattle.entry.specs.declared.ScanEnd.TheVariants as scanned

@@ -8,8 +8,8 @@ use Rattle.group.specs.Flags.{meaning_of}
 use Rattle.group.specs.Entries.{entries_below}
 use Rattle.entry.specs.declared.Cursor.{Cursor}
 use Rattle.entry.specs.Scan.{after, is_last}
-use Rattle.answer.specs.declared.Told.{Told}
-use Rattle.answer.specs.declared.Told.TheVariants.{Accepted, RefusedAt}
+use Rattle.answer.specs.Answer.{Told}
+use Rattle.answer.specs.Answer.{Accepted, RefusedAt}
 use Rattle.reader.specs.declared.Reader.{Reader}
 use Rattle.reader.specs.declared.ReadAnswer.TheVariants as answer
 use Rattle.reader.specs.Answer.{sound, length_kept, repeats, is_repeat, next_is, rows_fit, opening, read_call}

@@ -1,8 +1,8 @@
 -- Source document 001, 18.7 and 18.8: where a message begins in received bytes, and what the search for it answers.
 -- Assumes nothing.
 use Rattle.std.specs.Prelude.{ℕ, zero, suc, ◌+◌, ◌-◌, ◌≤◌, ◌<◌, ◌≡◌, List, [], ◌∷◌, Bool, true, false, cond, ◌&&◌, eqb, leb, length, get_or, take, drop}
-use Rattle.answer.specs.declared.Told.{Told}
-use Rattle.answer.specs.declared.Told.TheVariants as answer
+use Rattle.answer.specs.Answer.{Told}
+use Rattle.answer.specs.Answer as answer
 use Rattle.answer.specs.Answer.{accepted}
 use Rattle.radio.specs.declared.RadioAnswer.{RadioAnswer}
 use Rattle.radio.specs.declared.RadioAnswer.TheVariants.{Found, Nothing, Refused}

@@ -4,8 +4,8 @@ use Rattle.std.specs.Prelude.{ℕ, ◌+◌, ◌*◌, ◌-◌, ◌≡◌, List, B
 use Rattle.group.specs.declared.Phase.TheVariants as phase
 use Rattle.group.specs.Sizes.{information_length, last_number, entries_kept, entry_offset}
 use Rattle.numbers.specs.Store.{put}
-use Rattle.answer.specs.declared.Told.{Told}
-use Rattle.answer.specs.declared.Told.TheVariants.{Accepted, RefusedAt}
+use Rattle.answer.specs.Answer.{Told}
+use Rattle.answer.specs.Answer.{Accepted, RefusedAt}
 use Rattle.answer.specs.Answer.{accepted}
 use Rattle.group.specs.Entries.{entries_below}
 use Rattle.group.specs.State.{run_sound, start_refusal}

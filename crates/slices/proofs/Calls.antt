@@ -12,8 +12,8 @@ use lib.ListN.{length, get_or}
 use Rattle.numbers.specs.Numbers.{in_bytes, field}
 use Rattle.numbers.proofs.InBytes.{length_in_bytes, field_of_bytes}
 use Rattle.numbers.proofs.Tests.{both}
-use Rattle.answer.specs.declared.Told.{Told}
-use Rattle.answer.specs.declared.Told.TheVariants.{Accepted, RefusedAt}
+use Rattle.answer.specs.Answer.{Told}
+use Rattle.answer.specs.Answer.{Accepted, RefusedAt}
 use Rattle.answer.specs.Answer.{accepted, numbers_told, refusal_told, if_accepted}
 use Rattle.slices.specs.Call.{Left, left, slice, answer_length, lengths_kept, of_meaning, called, Tells, Refuses, Answers}
 

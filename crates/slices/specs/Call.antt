@@ -3,8 +3,8 @@
 -- Assumes nothing.
 use Rattle.std.specs.Prelude.{ℕ, ◌≡◌, List, [], Bool, true, false, cond, not, ◌&&◌, eqb, length, get_or}
 use Rattle.numbers.specs.Numbers.{number_at, in_bytes}
-use Rattle.answer.specs.declared.Told.{Told}
-use Rattle.answer.specs.declared.Told.TheVariants.{RefusedAt}
+use Rattle.answer.specs.Answer.{Told}
+use Rattle.answer.specs.Answer.{RefusedAt}
 use Rattle.answer.specs.Answer.{numbers_told, refusal_told, if_accepted}
 
 -- What a call leaves: the number that it returns, each slice that it may write, in the order in which they are lent, and the

@@ -4,6 +4,7 @@
 
 ghost use Rattle.std.specs.Prelude.{◌≡◌, [], ◌∷◌, length};
 ghost use Rattle.numbers.specs.Numbers.{in_bytes};
+ghost use Rattle.answer.specs.Refusals.{told_of};
 ghost use Rattle.slices.specs.Call.{answer_length, lengths_kept, Tells};
 
 use answer::Told;
@@ -12,13 +13,11 @@ use answer::Told;
 pub const ANSWER_LENGTH: usize = 24;
 
 // Whether a state and an answer slice are of their lengths.
+#[tactic(auto, unfolding(crate::specs::Call::lengths_kept))]
 pub fn lengths_kept(state: usize, own: usize, answer: usize) -> bool
     ensures { result ≡ lengths_kept state own answer }
 {
-    if state != own {
-        return false;
-    }
-    answer == ANSWER_LENGTH
+    state == own && answer == ANSWER_LENGTH
 }
 
 // An answer's six numbers, over all that stood in the slice.
@@ -45,15 +44,24 @@ fn put_answer(
 // What a call tells, into its answer slice. Answers what the call returns.
 pub fn tell(answer: &mut [u8], told: Told) -> u32
     requires { length answer.old ≡ answer_length }
-    ensures { Tells told result answer.new }
+    ensures { Tells (told_of told) result answer.new }
 {
     match told {
-        Told::Accepted(outcome, number, entries, taken) => {
-            put_answer(answer, 0, 0, outcome, number, entries, taken);
+        Ok(told) => {
+            put_answer(
+                answer,
+                0,
+                0,
+                told.outcome,
+                told.number,
+                told.entries,
+                told.taken,
+            );
             0
         }
-        Told::RefusedAt(refusal, place) => {
-            put_answer(answer, refusal, place, 0, 0, 0, 0);
+        Err(refused) => {
+            let refusal = u32::from(refused.refusal);
+            put_answer(answer, refusal, refused.place, 0, 0, 0, 0);
             refusal
         }
     }

@@ -1,8 +1,8 @@
 -- Change request 2026-08: what each call answers, and what it leaves in the buffer, for every input.
 -- Assumes nothing.
 use Rattle.std.specs.Prelude.{◌≡◌, Bool, cond, not, ◌&&◌, List, ℕ, ◌*◌, eqb, leb, ltb, length}
-use Rattle.answer.specs.declared.Told.{Told}
-use Rattle.answer.specs.declared.Told.TheVariants as answer
+use Rattle.answer.specs.Answer.{Told}
+use Rattle.answer.specs.Answer as answer
 use Rattle.answer.specs.Answer.{if_accepted}
 use Rattle.column.specs.Column.{row_count, last_row, Column, lawful, restored_one, restored_two, mended, mendable}
 use Rattle.restoring.specs.Rows.{each_column, first_failing}

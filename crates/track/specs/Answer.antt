@@ -1,8 +1,8 @@
 -- Change request 2026-01: what making and reading a track answer, and what they leave in each lent slice, for every input.
 -- Assumes nothing.
 use Rattle.std.specs.Prelude.{ℕ, zero, suc, ◌≡◌, List, Bool, cond, not, ◌&&◌, eqb, length}
-use Rattle.answer.specs.declared.Told.{Told}
-use Rattle.answer.specs.declared.Told.TheVariants as answer
+use Rattle.answer.specs.Answer.{Told}
+use Rattle.answer.specs.Answer as answer
 use Rattle.answer.specs.Answer.{accepted, if_accepted}
 use Rattle.header.specs.Header.{area_kept, pack_kept}
 use Rattle.items.specs.Items.{numbers_length, numbers_of}

@@ -10,7 +10,7 @@ use lib.Dec.{T, eqb}
 use lib.Bits.{bit_and}
 use lib.ListN.{length, get_or, take, drop, replicate, length-append, length-drop, length-replicate, take-append-drop}
 use lib.Seq.{length-take-le, take_at, drop_at, drop-drop, get_or-take, get_or-drop}
-use Rattle.answer.specs.declared.Told.TheVariants as answer
+use Rattle.answer.specs.Answer as answer
 use Rattle.answer.specs.Answer.{if_accepted}
 use Rattle.numbers.specs.Store.{put, zeros}
 use Rattle.numbers.proofs.Stores.{put_put, put_whole, take_rest, zeros_are}

@@ -2,8 +2,8 @@
 -- Assumes nothing.
 use Rattle.std.specs.Prelude.{ℕ, ◌+◌, ◌/◌, ◌%◌, ◌≡◌, List, ◌++◌, Bool, cond, not, ◌&&◌, eqb, leb, length, get_or, take, drop, replicate}
 use Rattle.numbers.specs.Store.{zeros}
-use Rattle.answer.specs.declared.Told.{Told}
-use Rattle.answer.specs.declared.Told.TheVariants as answer
+use Rattle.answer.specs.Answer.{Told}
+use Rattle.answer.specs.Answer as answer
 use Rattle.answer.specs.Answer.{refusal_told, if_accepted}
 use Rattle.volume.specs.declared.VolumeAnswer.{VolumeAnswer}
 use Rattle.volume.specs.declared.VolumeAnswer.TheVariants.{TypeA, TypeB, Refused}

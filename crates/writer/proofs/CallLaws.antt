@@ -7,7 +7,7 @@ use Prim.Native.Nat.{ℕ, ◌+◌, ◌-◌, ◌≤◌, ◌<◌}
 use lib.ListN.{length, take}
 use lib.Dec.{leb, ltb}
 use borrow.Author.Tests.{leb-true, leb-false, ltb-true, ltb-false}
-use Rattle.answer.specs.declared.Told.TheVariants.{Accepted}
+use Rattle.answer.specs.Answer.{Accepted}
 use Rattle.answer.specs.Answer.{accepted}
 use Rattle.group.specs.declared.Kind.TheVariants as kind
 use Rattle.group.specs.declared.Phase.TheVariants.{Free, Inside, Owed}

@@ -1,8 +1,8 @@
 -- Document 01, "Writing": what each call answers and the buffer that it leaves, for every input; and what the firmware is told.
 -- Assumes nothing.
 use Rattle.std.specs.Prelude.{ℕ, ◌+◌, ◌-◌, ◌≡◌, List, Bool, cond, length, take, eqb, leb, ltb}
-use Rattle.answer.specs.declared.Told.{Told}
-use Rattle.answer.specs.declared.Told.TheVariants as answer
+use Rattle.answer.specs.Answer.{Told}
+use Rattle.answer.specs.Answer as answer
 use Rattle.answer.specs.Answer.{accepted}
 use Rattle.group.specs.declared.Kind.TheVariants as kind
 use Rattle.group.specs.declared.Phase.{Phase}

@@ -1,0 +1,2 @@
+-- Laws of the numbers of refusals.
+pub mod RefusalLaws
