@@ -1,7 +1,7 @@
 // The rules of one entry, each as a number or a test.
 ghost use Rattle.std.specs.Prelude.{◌≡◌, ◌≤◌};
 ghost use Rattle.group.specs.Sizes.{standard_size, longest_record};
-ghost use Rattle.group.specs.declared.Meaning.TheVariants.{Known};
+ghost use Rattle.std.specs.Prelude.{Some};
 ghost use Rattle.group.specs.Flags.{meaning_of};
 ghost use Rattle.group.specs.ForContracts.{Meant};
 ghost use Rattle.counts.specs.Counts.{holds_data};
@@ -45,14 +45,14 @@ fn may_follow(follows: &[[bool; 8]; 5], stand: Stand, kind: Kind) -> bool
     ensures { result ≡ may_follow stand kind }
 {
     let row = stand_number(stand);
-    let column = group::flags::kind_number(kind) as usize;
+    let column = u32::from(kind) as usize;
     follows[row][column]
 }
 
 fn is_skip(kind: Kind) -> bool
     ensures { result ≡ is_skip kind }
 {
-    group::flags::kind_number(kind) == 7
+    kind == Kind::Skip
 }
 
 // 10: the kind may follow, and a skip stands at entry n and nowhere else.
@@ -177,7 +177,7 @@ fn known_fault(
 ) -> u32
     requires follows_value { follows.now ≡ follow_table }
     requires bounded { (Bounded limit here) × ((limit ≤ size) × ((size ≤ standard_size) × (count ≤ longest_record))) }
-    ensures { result ≡ entry_fault size limit last here (Known kind warned) count }
+    ensures { result ≡ entry_fault size limit last here (Some (kind, warned)) count }
 {
     if !b4_kept(here.warned, warned) {
         return 9;
@@ -208,10 +208,10 @@ pub fn entry_fault(
     ensures { result ≡ entry_fault size limit last here meaning count }
 {
     match meaning {
-        Meaning::Known(kind, warned) => {
+        Some((kind, warned)) => {
             known_fault(follows, size, limit, last, here, kind, warned, count)
         }
-        Meaning::Unknown => 8,
+        None => 8,
     }
 }
 
@@ -221,7 +221,7 @@ pub fn advance(here: Cursor, meaning: Meaning, count: u32) -> Cursor
     ensures { result ≡ after here meaning count }
 {
     match meaning {
-        Meaning::Known(kind, warned) => {
+        Some((kind, warned)) => {
             let stand = here.stand;
             Cursor {
                 stand: stand_after(stand, kind),
@@ -230,7 +230,7 @@ pub fn advance(here: Cursor, meaning: Meaning, count: u32) -> Cursor
                 reached: reached_after(kind, here.reached, count),
             }
         }
-        Meaning::Unknown => here,
+        None => here,
     }
 }
 

@@ -65,8 +65,8 @@ pub(crate) fn kind_found(flag: u8) -> u32
     ensures { result ≡ kind_found (meaning_of flag) }
 {
     match group::flags::meaning_of(flag) {
-        Meaning::Known(kind, _) => group::flags::kind_number(kind),
-        Meaning::Unknown => 0,
+        Some((kind, _)) => u32::from(kind),
+        None => 0,
     }
 }
 
@@ -75,7 +75,7 @@ pub(crate) fn leaves_it(flag: u8, sum: u32) -> u32
     ensures { result ≡ leaves_it (meaning_of flag) sum }
 {
     match group::flags::meaning_of(flag) {
-        Meaning::Known(kind, _) => leaves(kind, sum),
-        Meaning::Unknown => 0,
+        Some((kind, _)) => leaves(kind, sum),
+        None => 0,
     }
 }

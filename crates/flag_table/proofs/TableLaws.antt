@@ -10,30 +10,30 @@ use lib.ListN.{get_or}
 use Rattle.numbers.specs.Numbers.{listed}
 use Rattle.numbers.proofs.Computed.{listed_at}
 use Rattle.group.specs.declared.Kind.{Kind}
-use Rattle.group.specs.declared.Meaning.{Meaning}
-use Rattle.group.specs.declared.Meaning.TheVariants.{Known, Unknown}
+use Rattle.group.specs.Flags.{Meaning}
+use Rattle.std.specs.Prelude.{Some, None}
 use Rattle.group.specs.Flags.{kind_number, meaning_of, b4_of}
 use Rattle.group.proofs.FlagLaws.{each, meant_or, b4_of_meaning}
 use Rattle.flag_table.specs.Table.{code_of, flag_table, Below}
 
 -- A code is below 16, and below 2 it is no kind's; half of it is its kind's number.
 pub code_small : (m : Meaning) → code_of m < 16
-code_small Unknown = search rules
-code_small (Known k w) = each (λ (k : Kind) (w : Bool). code_of (Known k w) < 16) (search rules) k w
+code_small None = search rules
+code_small (Some (k, w)) = each (λ (k : Kind) (w : Bool). code_of (Some (k, w)) < 16) (search rules) k w
 
-code_known : (k : Kind) (w : Bool) → 2 ≤ code_of (Known k w)
-code_known = each (λ (k : Kind) (w : Bool). 2 ≤ code_of (Known k w)) (search rules)
+code_known : (k : Kind) (w : Bool) → 2 ≤ code_of (Some (k, w))
+code_known = each (λ (k : Kind) (w : Bool). 2 ≤ code_of (Some (k, w))) (search rules)
 
-code_half : (k : Kind) (w : Bool) → code_of (Known k w) / 2 ≡ kind_number k
-code_half = each (λ (k : Kind) (w : Bool). code_of (Known k w) / 2 ≡ kind_number k) (search rules)
+code_half : (k : Kind) (w : Bool) → code_of (Some (k, w)) / 2 ≡ kind_number k
+code_half = each (λ (k : Kind) (w : Bool). code_of (Some (k, w)) / 2 ≡ kind_number k) (search rules)
 
 -- What a flag means, by its code.
 module _ (flag code : ℕ) (b : Below 16 (code_of (meaning_of flag)) code) where
-  pub unknown_by_code : code < 2 → Unknown ≡ meaning_of flag
+  pub unknown_by_code : code < 2 → None ≡ meaning_of flag
   unknown_by_code h =
       meant_or flag (λ e. sym e) (λ m. absurd (omega (arith, b.is, ap code_of m.is, code_known m.kind m.warned)))
 
-  pub known_by_code : (k : Kind) → 2 ≤ code → ((j : Kind) → code / 2 ≡ kind_number j → k ≡ j) → Known k (b4_of flag) ≡ meaning_of flag
+  pub known_by_code : (k : Kind) → 2 ≤ code → ((j : Kind) → code / 2 ≡ kind_number j → k ≡ j) → Some (k, b4_of flag) ≡ meaning_of flag
   known_by_code k h is =
       meant_or flag
       (λ e. absurd (omega (arith, b.is, ap code_of e)))

@@ -1,7 +1,7 @@
 -- `meaning_in` meets its contract: what the code of a flag stands for. Assumes nothing.
 use native.Mathlib.Omega.{arith}
 use mathlib.Core.Path.{ap, ◌∙◌}
-use Rattle.group.specs.declared.Meaning.TheVariants.{Known}
+use Rattle.std.specs.Prelude.{Some}
 use Rattle.flag_table.proofs.TableLaws.{unknown_by_code, known_by_code}
 use Rattle.flag_table.proofs.meaning_in.Goals as goal
 

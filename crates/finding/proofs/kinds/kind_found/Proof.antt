@@ -11,5 +11,5 @@ kind_found_spec =
     (λ c. search rules)
     (λ c κs. search rules)
     (λ c. search rules)
-    (λ c. rw (← c.meaning_of.ensures, c.in-Known.is) c.kind_number.ensures)
-    (λ c. rw (← c.meaning_of.ensures, c.in-Unknown.is)))
+    (λ c. rw (← c.meaning_of.ensures, c.in-Some.is) c.kind_number.ensures)
+    (λ c. rw (← c.meaning_of.ensures, c.in-None.is)))

@@ -11,5 +11,5 @@ leaves_it_spec =
     (λ c. search rules)
     (λ c κs. search rules)
     (λ c. search rules)
-    (λ c. rw (← c.meaning_of.ensures, c.in-Known.is) c.leaves.ensures)
-    (λ c. rw (← c.meaning_of.ensures, c.in-Unknown.is)))
+    (λ c. rw (← c.meaning_of.ensures, c.in-Some.is) c.leaves.ensures)
+    (λ c. rw (← c.meaning_of.ensures, c.in-None.is)))
