@@ -1,11 +1,12 @@
 // The rules that a reader's and a writer's state share, and what a start refuses.
 ghost use Rattle.std.specs.Prelude.{◌≡◌};
-ghost use Rattle.answer.specs.Refusals.{number_of};
+ghost use Rattle.answer.specs.Numbers.{refusal_number};
+ghost use Rattle.answer.specs.Results.{number_of};
 ghost use Rattle.group.specs.Sizes.{entries_kept};
 ghost use Rattle.group.specs.State.{sum_kept, run_sound, start_refusal};
 
 use crate::{Group, Phase};
-use answer::Refusal;
+use answer::refusals::Refusal;
 
 fn sum_kept(phase: Phase, sum: u32) -> bool
     ensures { result ≡ sum_kept phase sum }
@@ -30,7 +31,7 @@ pub fn run_sound(size: u32, next: u32, phase: Phase, sum: u32) -> bool
 // What a start refuses.
 #[tactic(auto, unfolding(crate::specs::State::start_refusal))]
 pub fn start_refusal(size: u32, first: u32) -> Result<(), Refusal>
-    ensures { number_of result ≡ start_refusal size first }
+    ensures { number_of refusal_number result ≡ start_refusal size first }
 {
     if !numbers::is_between(Group::LEAST_SIZE, size, Group::STANDARD_SIZE) {
         return Err(Refusal::Size);

@@ -20,9 +20,7 @@ pub fn lay_entry(w: Writer, group: &mut [u8], kind: Kind, count: u32) -> Writer
     let at = room::entry_offset(w.size, entries) as usize;
     let flag = flags::flag_of(kind, w.warned);
     entries::put_entry(group, at, flag, count);
-    let mut v = w;
-    v.entries = entries;
-    v
+    Writer { entries, ..w }
 }
 
 // Data after the data that stands, and its entry.
@@ -34,8 +32,10 @@ pub fn lay_part(w: Writer, group: &mut [u8], kind: Kind, data: &[u8]) -> Writer
 {
     let n = data.len() as u32;
     bytes::put_bytes(group, w.filled as usize, data);
-    let mut v = w;
-    v.filled = w.filled + n;
+    let v = Writer {
+        filled: w.filled + n,
+        ..w
+    };
     lay_entry(v, group, kind, n)
 }
 
@@ -45,14 +45,10 @@ pub fn moved(w: Writer, phase: Phase, sum: u32, rest: u32) -> Writer
     ensures grown { Grown result w 0 0 }
 {
     Writer {
-        size: w.size,
-        next: w.next,
         phase,
-        warned: w.warned,
         sum,
         rest,
-        filled: w.filled,
-        entries: w.entries,
+        ..w
     }
 }
 
@@ -66,11 +62,12 @@ pub fn shut(w: Writer, group: &mut [u8]) -> Writer
     let from = v.filled as usize;
     let to = room::entry_offset(v.size, v.entries) as usize;
     bytes::put_zeros(group, from, to);
-    let mut state = v;
-    state.next = v.next + 1;
-    state.filled = 0;
-    state.entries = 0;
-    state
+    Writer {
+        next: v.next + 1,
+        filled: 0,
+        entries: 0,
+        ..v
+    }
 }
 
 // b4 as the call says: once set it stays.
@@ -78,11 +75,10 @@ fn warn_state(w: Writer, warn: bool) -> Writer
     ensures value { result ≡ warn_state warn w }
     ensures grown { Grown result w 0 0 }
 {
-    let mut v = w;
-    if warn {
-        v.warned = true;
+    Writer {
+        warned: w.warned || warn,
+        ..w
     }
-    v
 }
 
 // b4 is set, and an owed total is laid.
@@ -93,13 +89,9 @@ pub fn ready(w: Writer, group: &mut [u8], warn: bool) -> Writer
     ensures grown { w.phase ≡ phase.Inside → (Grown result w 0 0) × (result.sum ≡ w.sum) }
 {
     let v = warn_state(w, warn);
-    let phase = w.phase;
-    match phase {
-        Phase::Free => v,
-        Phase::Inside => v,
-        Phase::Owed => {
-            let paid = lay_entry(v, group, Kind::Total, v.sum);
-            moved(paid, Phase::Free, 0, 0)
-        }
+    if w.phase != Phase::Owed {
+        return v;
     }
+    let paid = lay_entry(v, group, Kind::Total, v.sum);
+    moved(paid, Phase::Free, 0, 0)
 }

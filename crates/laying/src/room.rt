@@ -31,9 +31,8 @@ pub fn fit(w: Writer, n: u32) -> Fit
 {
     let r = room(w);
     if (n as i64) <= r {
-        return Fit::Entire;
-    }
-    if r >= 1 {
+        Fit::Entire
+    } else if r >= 1 {
         Fit::Start(r as u32)
     } else {
         Fit::Close

@@ -4,10 +4,11 @@
 
 ghost use Rattle.std.specs.Prelude.{◌≡◌, [], ◌∷◌, length};
 ghost use Rattle.numbers.specs.Numbers.{in_bytes};
-ghost use Rattle.answer.specs.Refusals.{told_of};
+ghost use Rattle.answer.specs.Results.{told_of};
 ghost use Rattle.slices.specs.Call.{answer_length, lengths_kept, Tells};
 
 use answer::Told;
+use answer::refusals::Numbered;
 
 // The length of an answer slice, in bytes.
 pub const ANSWER_LENGTH: usize = 24;
@@ -42,9 +43,9 @@ fn put_answer(
 }
 
 // What a call tells, into its answer slice. Answers what the call returns.
-pub fn tell(answer: &mut [u8], told: Told) -> u32
+pub fn tell<R: Numbered>(answer: &mut [u8], told: Told<R>) -> u32
     requires { length answer.old ≡ answer_length }
-    ensures { Tells (told_of told) result answer.new }
+    ensures { Tells (told_of R.number told) result answer.new }
 {
     match told {
         Ok(told) => {
@@ -60,7 +61,7 @@ pub fn tell(answer: &mut [u8], told: Told) -> u32
             0
         }
         Err(refused) => {
-            let refusal = u32::from(refused.refusal);
+            let refusal = refused.refusal.number();
             put_answer(answer, refusal, refused.place, 0, 0, 0, 0);
             refusal
         }
