@@ -11,8 +11,8 @@ use borrow.Author.Tests.{le-leb, lt-leb}
 use Rattle.group.specs.declared.Entry.{Entry}
 use Rattle.group.specs.Flags.{meaning_of}
 use Rattle.entry.specs.declared.Cursor.{Cursor}
-use Rattle.entry.specs.declared.ScanEnd.{ScanEnd}
-use Rattle.entry.specs.declared.ScanEnd.TheVariants.{Reached, Refused}
+use Rattle.entry.specs.ScanEnd.{ScanEnd}
+use Rattle.entry.specs.ScanEnd.{Reached, Refused}
 use Rattle.entry.specs.Rules.{entry_fault}
 use Rattle.entry.specs.Scan.{after, is_last, scan}
 use Rattle.blockrule.specs.Rule.{block_kept, block_scan}

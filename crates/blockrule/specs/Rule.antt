@@ -8,8 +8,8 @@ use Rattle.std.specs.Prelude.{Some, None}
 use Rattle.group.specs.Flags.{meaning_of}
 use Rattle.counts.specs.Counts.{is_among}
 use Rattle.entry.specs.declared.Cursor.{Cursor}
-use Rattle.entry.specs.declared.ScanEnd.{ScanEnd}
-use Rattle.entry.specs.declared.ScanEnd.TheVariants.{Reached}
+use Rattle.entry.specs.ScanEnd.{ScanEnd}
+use Rattle.entry.specs.ScanEnd.{Reached}
 use Rattle.entry.specs.Rules.{entry_fault, or_else}
 use Rattle.entry.specs.Scan.{after, is_last, onward}
 

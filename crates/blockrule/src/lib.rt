@@ -1,7 +1,7 @@
 // Change request 2026-09: the rule of a block over a group's entries. The leaf has a `requires`, on a group whose table fits.
 #![tactic(auto)]
 
-ghost use Rattle.std.specs.Prelude.{◌≡◌, ◌+◌, ◌*◌, ◌-◌, ◌≤◌, length};
+ghost use Rattle.std.specs.Prelude.{unwrap_or, ◌≡◌, ◌+◌, ◌*◌, ◌-◌, ◌≤◌, length};
 ghost use Rattle.group.specs.Sizes.{information_length, entry_length};
 ghost use Rattle.group.specs.Flags.{meaning_of};
 ghost use Rattle.group.specs.Entries.{entries_below};

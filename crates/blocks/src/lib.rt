@@ -2,7 +2,9 @@
 // block size, and tells where a read refuses a record of another length. All else of a read is the plain reader's.
 #![tactic(auto)]
 
-ghost use Rattle.std.specs.Prelude.{◌≡◌, true};
+ghost use Rattle.std.specs.Prelude.{◌≡◌, true, unwrap_or};
+ghost use Rattle.answer.specs.Numbers.{blocks_number};
+ghost use Rattle.reader.specs.ReaderStart.{start_of};
 ghost use Rattle.reader.specs.Answer.{read_call};
 ghost use Rattle.blocks.specs.Answer.{block_size_kept, blocks_start_call, blocks_read_call};
 ghost use Rattle.blocks.specs.Bounds.{unless_other};

@@ -6,8 +6,8 @@ ghost use Rattle.slices.specs.Call.{left};
 ghost use Rattle.c_blocks.specs.Calls.{dds_blocks_start, dds_blocks_read, find_told, dds_blocks_find};
 ghost use Rattle.c_blocks.specs.ForContracts.{Judges};
 
-use answer::{Outcome, Refused, Told};
 use answer::refusals::{BlocksRefusal, Refusal};
+use answer::{Outcome, Refused, Told};
 use seek::Beginning;
 
 // The length of the state slice, in bytes: a plain reader's and the block size.

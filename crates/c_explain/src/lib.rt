@@ -1,6 +1,7 @@
 // Why a read refuses, from C: seven numbers of eight bytes.
 #![tactic(auto)]
 
+ghost use Rattle.explain.specs.Explanation.{explanation_of};
 ghost use Rattle.std.specs.Prelude.{◌≡◌, length};
 ghost use Rattle.reasons.specs.Reasons.{no_reason};
 ghost use Rattle.explain.specs.Explanation.{explanation};
@@ -48,7 +49,13 @@ const NO_STATE: Explanation = Explanation {
 };
 
 // The explanation of a read in the state that a slice holds.
-fn explain_state(state: &[u8], group: &[u8], number: u32, entries: u32, rows: &[u8]) -> Option<Explanation>
+fn explain_state(
+    state: &[u8],
+    group: &[u8],
+    number: u32,
+    entries: u32,
+    rows: &[u8],
+) -> Option<Explanation>
     ensures { explanation_of result ≡ state_explained state.now group.now number entries rows.now }
 {
     if state.len() != states::READER_LENGTH || !states::reader_meant(state) {

@@ -2,15 +2,15 @@
 #![tactic(auto)]
 
 ghost use Rattle.std.specs.Prelude.{◌≡◌, [], ◌∷◌, length};
-ghost use Rattle.reader.specs.declared.ReadAnswer.TheVariants.{Accepted};
+ghost use Rattle.reader.specs.ReadAnswer.{Accepted};
 ghost use Rattle.reader.specs.Answer.{told};
 ghost use Rattle.slices.specs.Call.{left, answer_length, Tells};
 ghost use Rattle.states.specs.States.{reader_length};
 ghost use Rattle.c_reader.specs.Calls.{dds_reader_start, state_left, dds_read};
 ghost use Rattle.storing.specs.ForContracts.{Follows};
 
-use answer::{Outcome, Refused, Told};
 use answer::refusals::Refusal;
+use answer::{Outcome, Refused, Told};
 use reader::{Read, Reader};
 
 // A fresh reader, into the state slice.

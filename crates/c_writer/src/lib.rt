@@ -8,8 +8,8 @@ ghost use Rattle.slices.specs.Call.{left, answer_length, lengths_kept, Tells, Re
 ghost use Rattle.states.specs.States.{writer_length, b4_meant, writer_bytes, writer_meant};
 ghost use Rattle.c_writer.specs.Calls.{dds_writer_start, dds_record, dds_separator, dds_end};
 
-use answer::{Outcome, Refused, Told};
 use answer::refusals::Refusal;
+use answer::{Outcome, Refused, Told};
 use laying::Writer;
 use writer::Written;
 

@@ -18,8 +18,8 @@ use Rattle.group.specs.declared.Phase.TheVariants as phase
 use Rattle.group.specs.Sizes.{most_owing}
 use Rattle.group.specs.Flags.{meaning_of}
 use Rattle.entry.specs.declared.Cursor.{Cursor}
-use Rattle.entry.specs.declared.ScanEnd.{ScanEnd}
-use Rattle.entry.specs.declared.ScanEnd.TheVariants.{Reached, Refused}
+use Rattle.entry.specs.ScanEnd.{ScanEnd}
+use Rattle.entry.specs.ScanEnd.{Reached, Refused}
 use Rattle.entry.specs.declared.Stand.{Stand}
 use Rattle.entry.specs.declared.Stand.TheVariants.{Free, AfterPart, Inside, AfterLast, Owed}
 use Rattle.entry.specs.Rules.{may_follow, is_skip, stand_at, stand_after, entry_fault}

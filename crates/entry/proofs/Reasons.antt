@@ -18,8 +18,8 @@ use Rattle.group.specs.Sizes.{longest_record}
 use Rattle.group.specs.Flags.{meaning_of}
 use Rattle.group.proofs.StateLaws.{sum_small}
 use Rattle.entry.specs.declared.Cursor.{Cursor}
-use Rattle.entry.specs.declared.ScanEnd.{ScanEnd}
-use Rattle.entry.specs.declared.ScanEnd.TheVariants.{Reached, Refused}
+use Rattle.entry.specs.ScanEnd.{ScanEnd}
+use Rattle.entry.specs.ScanEnd.{Reached, Refused}
 use Rattle.entry.specs.declared.Stand.{Stand}
 use Rattle.entry.specs.declared.Stand.TheVariants.{Free, AfterPart, Inside, AfterLast, Owed}
 use Rattle.counts.specs.Counts.{zero_part, above_one, too_long, differs}

@@ -16,8 +16,8 @@ use Rattle.group.specs.Flags.{flag_of, meaning_of}
 use Rattle.group.specs.ForContracts.{Meant}
 use Rattle.group.proofs.FlagLaws.{each, flag_of_meaning}
 use Rattle.entry.specs.declared.Cursor.{Cursor}
-use Rattle.entry.specs.declared.ScanEnd.{ScanEnd}
-use Rattle.entry.specs.declared.ScanEnd.TheVariants.{Reached, Refused}
+use Rattle.entry.specs.ScanEnd.{ScanEnd}
+use Rattle.entry.specs.ScanEnd.{Reached, Refused}
 use Rattle.counts.specs.Counts.{holds_data}
 use Rattle.entry.specs.Rules.{entry_fault}
 use Rattle.entry.specs.Scan.{after, is_last, onward, scan, reached_by}

@@ -16,7 +16,7 @@ use Rattle.numbers.proofs.Tests.{both, within, is_within}
 use Rattle.entry.specs.declared.Stand.{Stand}
 use Rattle.entry.specs.declared.Stand.TheVariants.{Free, AfterPart, Inside, AfterLast, Owed}
 use Rattle.entry.specs.declared.Cursor.{Cursor}
-use Rattle.entry.specs.declared.ScanEnd.TheVariants.{Reached}
+use Rattle.entry.specs.ScanEnd.{Reached}
 use Rattle.entry.specs.Rules.{may_follow, is_skip, stand_after, sum_after, entry_fault}
 use Rattle.entry.specs.Scan.{after, is_last, scan}
 use Rattle.entry.specs.Reasons.{Suits}

@@ -9,8 +9,8 @@ use Rattle.group.specs.Sizes.{entry_offset}
 use Rattle.group.specs.Flags.{meaning_of}
 use Rattle.group.specs.Entries.{entry}
 use Rattle.entry.specs.declared.Stand.TheVariants.{Inside}
-use Rattle.entry.specs.declared.ScanEnd.{ScanEnd}
-use Rattle.entry.specs.declared.ScanEnd.TheVariants.{Reached, Refused}
+use Rattle.entry.specs.ScanEnd.{ScanEnd}
+use Rattle.entry.specs.ScanEnd.{Reached, Refused}
 use Rattle.entry.specs.Scan.{scan}
 
 -- "a group of two entries, last then skip, whose skip count is 44 or more"

@@ -11,8 +11,8 @@ use Rattle.group.specs.Flags.{meaning_of}
 use Rattle.group.specs.State.{sum_kept}
 use Rattle.entry.specs.declared.Cursor.{Cursor}
 use Rattle.entry.specs.declared.Stand.{Stand}
-use Rattle.entry.specs.declared.ScanEnd.{ScanEnd}
-use Rattle.entry.specs.declared.ScanEnd.TheVariants.{Reached, Refused}
+use Rattle.entry.specs.ScanEnd.{ScanEnd}
+use Rattle.entry.specs.ScanEnd.{Reached, Refused}
 use Rattle.counts.specs.Counts.{zero_part, above_one, too_long, differs}
 use Rattle.entry.specs.Rules.{phase_after, b4_kept, follow_kept, room_kept, skip_kept, or_else}
 use Rattle.entry.specs.Scan.{after, is_last, onward}

@@ -6,8 +6,8 @@ use Rattle.group.specs.Flags.{Meaning}
 use Rattle.std.specs.Prelude.{Some, None}
 use Rattle.group.specs.Flags.{meaning_of}
 use Rattle.entry.specs.declared.Cursor.{Cursor}
-use Rattle.entry.specs.declared.ScanEnd.{ScanEnd}
-use Rattle.entry.specs.declared.ScanEnd.TheVariants.{Reached, Refused}
+use Rattle.entry.specs.ScanEnd.{ScanEnd}
+use Rattle.entry.specs.ScanEnd.{Reached, Refused}
 use Rattle.entry.specs.Rules.{entry_fault, advance, reached_after}
 
 -- Where the scan stands after an entry.

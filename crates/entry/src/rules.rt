@@ -41,10 +41,7 @@ fn follow_kept(stand: Stand, kind: Kind, last: bool) -> bool
 fn holds_data(kind: Kind) -> bool
     ensures { result ≡ holds_data kind }
 {
-    matches!(
-        kind,
-        Kind::Middle | Kind::Start | Kind::Last | Kind::Entire
-    )
+    matches!(kind, Kind::Middle | Kind::Start | Kind::Last | Kind::Entire)
 }
 
 fn reached_after(kind: Kind, reached: u32, count: u32) -> u32

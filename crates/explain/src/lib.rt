@@ -2,6 +2,7 @@
 // public requires nothing.
 #![tactic(auto)]
 
+ghost use Rattle.explain.specs.Explanation.{explanation_of};
 ghost use Rattle.std.specs.Prelude.{◌≡◌};
 ghost use Rattle.reader.specs.Answer.{is_repeat};
 ghost use Rattle.explain.specs.Explanation.{no_refusal, explained};
@@ -29,7 +30,13 @@ fn is_repeat(reader: Reader, length: usize, number: u32) -> bool
 
 impl Explanation {
     // Of a read that is lent `rows` bytes of rows; none where it is accepted, or sees a repeat. Nothing is written.
-    pub fn of(reader: Reader, group: &[u8], number: u32, entries: u32, rows: usize) -> Option<Explanation>
+    pub fn of(
+        reader: Reader,
+        group: &[u8],
+        number: u32,
+        entries: u32,
+        rows: usize,
+    ) -> Option<Explanation>
         ensures { explanation_of result ≡ explained reader group.now number entries rows }
     {
         if is_repeat(reader, group.len(), number) {

@@ -6,13 +6,13 @@ use mathlib.Core.Bool.{Bool, true, false}
 use mathlib.Core.List.{List}
 use Rattle.group.specs.Sizes.{last_number}
 use Rattle.reader.specs.declared.Reader.{Reader}
-use Rattle.reader.specs.declared.ReaderStart.{ReaderStart}
-use Rattle.reader.specs.declared.ReaderStart.TheVariants as start
-use Rattle.reader.specs.declared.ReadAnswer.{ReadAnswer}
+use Rattle.reader.specs.ReaderStart.{ReaderStart}
+use Rattle.reader.specs.ReaderStart as start
+use Rattle.reader.specs.ReadAnswer.{ReadAnswer}
 use Rattle.reader.specs.Answer.{reader_start_call, read_call}
 use Rattle.reasons.specs.declared.Reason.{Reason}
 use Rattle.reasons.specs.Reasons.{reason}
-use Rattle.explain.specs.declared.Explanation.{Explanation}
+use Rattle.explain.specs.Explanation.{Explanation}
 use Rattle.explain.specs.Explanation.{explanation, explained}
 use Rattle.sections.specs.declared.Pair.{Pair}
 use Rattle.telling.specs.Telling.{last, bad_step, row_numbers}

@@ -1,5 +1,6 @@
 // The reason of a refusal before the scan.
 ghost use Rattle.std.specs.Prelude.{◌≡◌};
+ghost use Rattle.answer.specs.Numbers.{refusal_number};
 ghost use Rattle.reasons.specs.Reasons.{next_reason, call_reason};
 
 use answer::refusals::Refusal;

@@ -1,5 +1,6 @@
 // The reason of a refusal at an entry.
 ghost use Rattle.std.specs.Prelude.{◌≡◌};
+ghost use Rattle.answer.specs.Numbers.{refusal_number};
 ghost use Rattle.group.specs.Sizes.{entry_offset};
 ghost use Rattle.group.specs.Flags.{b4_of};
 ghost use Rattle.reasons.specs.Reasons.{b4_found, stop, entry_reason};

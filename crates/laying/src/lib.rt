@@ -5,6 +5,8 @@
 pub mod lay;
 pub mod room;
 
+ghost use Rattle.answer.specs.Numbers.{refusal_number};
+ghost use Rattle.laying.specs.WriterStart.{start_of};
 ghost use Rattle.std.specs.Prelude.{◌≡◌};
 ghost use Rattle.laying.specs.Start.{writer_start_call};
 

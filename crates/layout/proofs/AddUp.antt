@@ -18,13 +18,13 @@ use Rattle.group.specs.Flags.{meaning_of}
 use Rattle.group.specs.Entries.{entries_below}
 use Rattle.group.proofs.EntryLaws.{length_entries}
 use Rattle.entry.specs.declared.Cursor.{Cursor}
-use Rattle.entry.specs.declared.ScanEnd.TheVariants.{Reached}
+use Rattle.entry.specs.ScanEnd.{Reached}
 use Rattle.entry.specs.Rules.{may_follow, reached_after, entry_fault}
 use Rattle.entry.specs.Scan.{after, scan}
 use Rattle.entry.proofs.Faults.{Kept, kept, unknown_fault}
 use Rattle.entry.proofs.Scans.{went_on}
 use Rattle.reader.specs.declared.Reader.{Reader}
-use Rattle.reader.specs.declared.ReadAnswer.TheVariants as answer
+use Rattle.reader.specs.ReadAnswer as answer
 use Rattle.reader.specs.Answer.{opening, group_scan, read_call}
 use Rattle.reader.proofs.Accepted.{accepted}
 use Rattle.layout.specs.Items.{Each}

@@ -21,7 +21,7 @@ use Rattle.group.proofs.FlagLaws.{flag_of_meaning}
 use Rattle.group.proofs.EntryLaws.{Small}
 use Rattle.entry.specs.declared.Stand.{Stand}
 use Rattle.entry.specs.declared.Cursor.{Cursor}
-use Rattle.entry.specs.declared.ScanEnd.TheVariants.{Reached}
+use Rattle.entry.specs.ScanEnd.{Reached}
 use Rattle.entry.specs.Rules.{may_follow, is_skip, stand_at, phase_after, advance, b4_kept, reached_after, room_kept, entry_fault}
 use Rattle.entry.specs.Scan.{after, scan}
 use Rattle.entry.proofs.Faults.{Kept, kept, unknown_fault}

@@ -6,7 +6,8 @@
 ghost use Rattle.std.specs.Prelude.{◌≡◌, ◌-◌};
 ghost use Rattle.group.specs.Sizes.{information_length, entry_offset};
 ghost use Rattle.group.specs.Entries.{entries_below};
-ghost use Rattle.entry.specs.Scan.{scan, end_of};
+ghost use Rattle.entry.specs.Scan.{scan};
+ghost use Rattle.entry.specs.ScanEnd.{end_of};
 ghost use Rattle.entry.specs.Bounds.{Cut, Bounded};
 
 use entry::{Cursor, Stop, rules};
@@ -23,9 +24,14 @@ pub fn scan_plainly(group: &[u8], size: u32, entries: u32, opening: Cursor) -> R
         let at = limit + Group::ENTRY_LENGTH * left;
         let entry = group::entries::entry_at(group, at as usize);
         let meaning = group::flags::meaning_of(entry.flag);
-        if let Err(refusal) =
-            rules::entry_fault(size, limit, left == 0, here, meaning, entry.count)
-        {
+        if let Err(refusal) = rules::entry_fault(
+            size,
+            limit,
+            left == 0,
+            here,
+            meaning,
+            entry.count,
+        ) {
             return Err(Stop {
                 refusal,
                 place: entries - left,

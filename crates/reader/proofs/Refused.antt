@@ -17,13 +17,13 @@ use Rattle.group.specs.Flags.{meaning_of}
 use Rattle.group.specs.Entries.{entries_below}
 use Rattle.group.proofs.EntryLaws.{length_entries}
 use Rattle.entry.specs.declared.Cursor.{Cursor}
-use Rattle.entry.specs.declared.ScanEnd.{ScanEnd}
-use Rattle.entry.specs.declared.ScanEnd.TheVariants as scanned
+use Rattle.entry.specs.ScanEnd.{ScanEnd}
+use Rattle.entry.specs.ScanEnd as scanned
 use Rattle.counts.specs.Counts.{zero_part, above_one, too_long, differs}
 use Rattle.entry.specs.Rules.{b4_kept, follow_kept, or_else, room_kept, skip_kept, owed_kept, entry_fault}
 use Rattle.entry.specs.Scan.{after, is_last, scan}
 use Rattle.reader.specs.declared.Reader.{Reader}
-use Rattle.reader.specs.declared.ReadAnswer.TheVariants as answer
+use Rattle.reader.specs.ReadAnswer as answer
 use Rattle.reader.specs.Answer.{sound, length_kept, is_repeat, next_is, rows_fit, read_refusal, opening, group_scan, answered, read_call}
 use Rattle.reader.specs.Refused.{is_one_of, before_scan, at_entry, RefusedRead}
 

@@ -16,15 +16,15 @@ use Rattle.group.specs.Flags.{meaning_of, b4_of}
 use Rattle.group.specs.Entries.{entry_at, entries_below}
 use Rattle.group.proofs.FlagLaws.{b4_of_meaning}
 use Rattle.entry.specs.declared.Cursor.{Cursor}
-use Rattle.entry.specs.declared.ScanEnd.TheVariants as scanned
+use Rattle.entry.specs.ScanEnd as scanned
 use Rattle.entry.specs.Rules.{b4_kept, entry_fault}
 use Rattle.entry.specs.Scan.{after, is_last, scan}
 use Rattle.entry.proofs.Faults.{kept, dropped, unknown_fault}
 use Rattle.entry.proofs.Scans.{went_on}
 use Rattle.scan.proofs.Turns.{turn}
 use Rattle.reader.specs.declared.Reader.{Reader}
-use Rattle.reader.specs.declared.ReadAnswer.{ReadAnswer}
-use Rattle.reader.specs.declared.ReadAnswer.TheVariants as answer
+use Rattle.reader.specs.ReadAnswer.{ReadAnswer}
+use Rattle.reader.specs.ReadAnswer as answer
 use Rattle.reader.specs.Answer.{opening, group_scan, read_refusal, read_call, state_of}
 use Rattle.reader.specs.Refused.{RefusedRead}
 use Rattle.reader.proofs.Accepted.{ready, accepted, repeated, read_scanned}

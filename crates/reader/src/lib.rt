@@ -4,6 +4,10 @@
 
 pub mod ends;
 
+ghost use Rattle.answer.specs.Numbers.{refusal_number};
+ghost use Rattle.answer.specs.Results.{number_of};
+ghost use Rattle.reader.specs.ReaderStart.{start_of};
+ghost use Rattle.reader.specs.ReadAnswer.{answer_of};
 ghost use Rattle.std.specs.Prelude.{◌≡◌, ◌/◌, length};
 ghost use Rattle.numbers.specs.Numbers.{in_bytes};
 ghost use Rattle.reader.specs.Answer.{reader_start_call, sound, repeats, read_refusal, read_call, as_numbers, Reads};
@@ -60,7 +64,13 @@ impl Reader {
     }
 
     // What a read refuses before the scan.
-    pub fn refusal(self, length: usize, number: u32, entries: u32, room: usize) -> Result<(), Refusal>
+    pub fn refusal(
+        self,
+        length: usize,
+        number: u32,
+        entries: u32,
+        room: usize,
+    ) -> Result<(), Refusal>
         ensures { number_of refusal_number result ≡ read_refusal self length number entries room }
     {
         if !self.is_sound() {
@@ -84,7 +94,13 @@ impl Reader {
     // What a read answers that is lent rows for `room` numbers. Nothing is written. A repeat is looked for only where a read would
     // else be refused with 5, so that an accepted read pays nothing for it. From the scan on the size is the group's length, which is
     // at hand.
-    pub fn judge(self, group: &[u8], number: u32, entries: u32, room: usize) -> Result<Read, Refused<Refusal>>
+    pub fn judge(
+        self,
+        group: &[u8],
+        number: u32,
+        entries: u32,
+        room: usize,
+    ) -> Result<Read, Refused<Refusal>>
         ensures { answer_of self result ≡ read_call self group.now number entries room }
     {
         if let Err(refusal) = self.refusal(group.len(), number, entries, room) {
@@ -99,7 +115,13 @@ impl Reader {
     }
 
     // Reads one group: the rows are filled once its last entry has passed.
-    pub fn read(self, group: &[u8], number: u32, entries: u32, rows: &mut [u32]) -> Result<Read, Refused<Refusal>>
+    pub fn read(
+        self,
+        group: &[u8],
+        number: u32,
+        entries: u32,
+        rows: &mut [u32],
+    ) -> Result<Read, Refused<Refusal>>
         ensures { Reads as_numbers self group.now number entries (length rows.old) rows.old (answer_of self result) rows.new }
     {
         let read = self.judge(group, number, entries, rows.len())?;
@@ -110,7 +132,13 @@ impl Reader {
     }
 
     // The same, with rows lent as bytes, twelve an entry, as C lends them.
-    pub fn read_bytes(self, group: &[u8], number: u32, entries: u32, rows: &mut [u8]) -> Result<Read, Refused<Refusal>>
+    pub fn read_bytes(
+        self,
+        group: &[u8],
+        number: u32,
+        entries: u32,
+        rows: &mut [u8],
+    ) -> Result<Read, Refused<Refusal>>
         ensures { Reads in_bytes self group.now number entries (length rows.old / 4) rows.old (answer_of self result) rows.new }
     {
         let read = self.judge(group, number, entries, rows.len() / 4)?;

@@ -8,7 +8,7 @@ use Rattle.words.specs.Words.{ascii, decimal, labelled, newline, kind_name}
 use Rattle.lines.specs.Text.{refusal_line}
 use Rattle.reasons.specs.declared.Reason.{Reason}
 use Rattle.reasons.specs.Truth.{is_permitted}
-use Rattle.explain.specs.declared.Explanation.{Explanation}
+use Rattle.explain.specs.Explanation.{Explanation}
 
 -- What is wrong, for each refusal that a run file can meet. 1, 4 and 7 it cannot: the program's own state is sound, its buffer is L bytes
 -- long, and it has room for the rows (`always_words`).

@@ -5,7 +5,7 @@ ghost use Rattle.group.specs.declared.Entry.{Entry};
 ghost use Rattle.group.specs.Sizes.{standard_size, entry_offset};
 ghost use Rattle.group.specs.Flags.{flag_of};
 ghost use Rattle.group.specs.ForContracts.{Word};
-ghost use Rattle.entry.specs.declared.ScanEnd.TheVariants.{Reached};
+ghost use Rattle.entry.specs.ScanEnd.{Reached};
 ghost use Rattle.entry.specs.Rules.{may_follow};
 ghost use Rattle.entry.specs.Bounds.{Cut, Bounded};
 ghost use Rattle.scan.specs.Stretch.{Single, scan_left, moved_to};

@@ -10,9 +10,9 @@ use Rattle.numbers.specs.Store.{put}
 use Rattle.numbers.proofs.Stores.{put_stands}
 use Rattle.reader.proofs.GroupRows.{length_group_rows}
 use Rattle.reader.specs.declared.Reader.{Reader}
-use Rattle.reader.specs.declared.ReaderStart.{ReaderStart}
-use Rattle.reader.specs.declared.ReadAnswer.{ReadAnswer}
-use Rattle.reader.specs.declared.ReadAnswer.TheVariants as answer
+use Rattle.reader.specs.ReaderStart.{ReaderStart}
+use Rattle.reader.specs.ReadAnswer.{ReadAnswer}
+use Rattle.reader.specs.ReadAnswer as answer
 use Rattle.reader.specs.Answer.{reader_start_call, read_call, group_rows, rows_left, as_numbers, Reads}
 use Rattle.reader.proofs.Accepted.{accepted}
 use Rattle.sections.specs.declared.Pair.{Pair}

@@ -12,7 +12,7 @@ use Rattle.numbers.proofs.Stores.{put_stands}
 use Rattle.numbers.proofs.Tests.{both}
 use Rattle.group.specs.Sizes.{information_length, entry_length, entries_kept}
 use Rattle.reader.specs.declared.Reader.{Reader}
-use Rattle.reader.specs.declared.ReadAnswer.TheVariants as answer
+use Rattle.reader.specs.ReadAnswer as answer
 use Rattle.reader.specs.Answer.{sound, length_kept, is_repeat, next_is, rows_fit, read_refusal, answered, group_scan, read_call}
 use Rattle.sections.specs.Sections.{largest_size}
 use Rattle.lines.specs.Text.{repeat_line}

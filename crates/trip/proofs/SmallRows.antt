@@ -17,8 +17,8 @@ use Rattle.group.specs.Flags.{meaning_of}
 use Rattle.group.specs.Entries.{entries_below}
 use Rattle.reader.specs.declared.Reader.{Reader}
 use Rattle.entry.specs.declared.Cursor.{Cursor}
-use Rattle.entry.specs.declared.ScanEnd.TheVariants.{Reached}
-use Rattle.reader.specs.declared.ReadAnswer.TheVariants as answer
+use Rattle.entry.specs.ScanEnd.{Reached}
+use Rattle.reader.specs.ReadAnswer as answer
 use Rattle.entry.specs.Rules.{entry_fault, skip_kept}
 use Rattle.entry.specs.Scan.{after, is_last, scan, reached_by}
 use Rattle.rows.specs.Rows.{row_kind, rows_from}

@@ -17,13 +17,13 @@ use Rattle.group.specs.Flags.{kind_number, meaning_of}
 use Rattle.group.specs.Entries.{entry_at, entries_below}
 use Rattle.group.proofs.FlagLaws.{kind_is_lem}
 use Rattle.entry.specs.declared.Cursor.{Cursor}
-use Rattle.entry.specs.declared.ScanEnd.{ScanEnd}
-use Rattle.entry.specs.declared.ScanEnd.TheVariants as scanned
+use Rattle.entry.specs.ScanEnd.{ScanEnd}
+use Rattle.entry.specs.ScanEnd as scanned
 use Rattle.entry.specs.Owing.{OwedEarly, last_then_skip}
 use Rattle.entry.proofs.Owing.{early_refused, early_only}
 use Rattle.rows.specs.Rows.{row_kind}
 use Rattle.reader.specs.declared.Reader.{Reader}
-use Rattle.reader.specs.declared.ReadAnswer.TheVariants as answer
+use Rattle.reader.specs.ReadAnswer as answer
 use Rattle.reader.specs.Answer.{is_repeat, read_refusal, opening, group_scan, answered, read_call}
 use Rattle.reader.specs.Refused.{RefusedRead}
 use Rattle.reader.proofs.Accepted.{accepted}

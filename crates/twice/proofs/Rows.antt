@@ -20,7 +20,7 @@ use Rattle.group.proofs.EntryLaws.{length_entries}
 use Rattle.entry.specs.Scan.{reached_by}
 use Rattle.rows.proofs.Filling.{length_rows}
 use Rattle.reader.specs.declared.Reader.{Reader}
-use Rattle.reader.specs.declared.ReadAnswer.TheVariants as answer
+use Rattle.reader.specs.ReadAnswer as answer
 use Rattle.rows.specs.Rows.{rows_from, row_kind}
 use Rattle.reader.specs.Answer.{group_rows, as_numbers, Reads}
 use Rattle.reader.proofs.Accepted.{accepted}

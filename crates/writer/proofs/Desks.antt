@@ -7,7 +7,7 @@ use borrow.Author.Tests.{ne_eqb, eq-eqb}
 use Rattle.group.specs.declared.Phase.{Phase}
 use Rattle.laying.specs.declared.Writer.{Writer}
 use Rattle.laying.specs.Laying.{Desk, desk, moved, moved_state}
-use Rattle.writer.specs.declared.WriteAnswer.TheVariants.{Refused}
+use Rattle.writer.specs.WriteAnswer.{Refused}
 use Rattle.writer.specs.Calls.{Done, done, Meets, or_refused}
 
 -- A state that is moved before a last step f.

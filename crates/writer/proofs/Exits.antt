@@ -9,7 +9,7 @@ use Rattle.group.specs.declared.Phase.{Phase}
 use Rattle.group.specs.declared.Phase.TheVariants.{Free, Inside, Owed}
 use Rattle.laying.specs.Laying.{Desk, ready}
 use Rattle.sound.specs.State.{is_inside, ends_empty, record_refusal, separator_refusal, end_refusal}
-use Rattle.writer.specs.declared.WriteAnswer.TheVariants.{Refused}
+use Rattle.writer.specs.WriteAnswer.{Refused}
 use Rattle.writer.specs.Calls.{Done, Meets, finished, closed, record_free, record_inside, record_accepted, record_call, separator_accepted, separator_call, end_accepted, end_call}
 use Rattle.writer.proofs.Desks.{refuse, meets}
 use Rattle.writer.proofs.CallLaws.{record_accepts, separator_accepts, end_accepts}

@@ -4,7 +4,8 @@ ghost use Rattle.group.specs.Sizes.{longest_record, last_number};
 ghost use Rattle.laying.specs.Room.{middle_length};
 ghost use Rattle.laying.specs.Laying.{desk};
 ghost use Rattle.laying.specs.Bounds.{Roomy, Opened};
-ghost use Rattle.writer.specs.Calls.{done, written, closed, record_free, record_inside, middle, last, separator_accepted};
+ghost use Rattle.writer.specs.WriteAnswer.{written};
+ghost use Rattle.writer.specs.Calls.{done, closed, record_free, record_inside, middle, last, separator_accepted};
 
 use crate::Written;
 use group::{Kind, Phase};

@@ -5,7 +5,8 @@
 mod calls;
 
 ghost use Rattle.laying.specs.Laying.{desk};
-ghost use Rattle.writer.specs.Calls.{Meets, answer_of, record_call, separator_call, end_call};
+ghost use Rattle.writer.specs.WriteAnswer.{answer_of};
+ghost use Rattle.writer.specs.Calls.{Meets, record_call, separator_call, end_call};
 
 use answer::refusals::Refusal;
 use group::Phase;
@@ -38,7 +39,12 @@ pub fn record(given: Writer, group: &mut [u8], data: &[u8], warn: bool) -> Resul
 }
 
 // Separator 1 is value 0, Separator 2 is value 1.
-pub fn separator(given: Writer, group: &mut [u8], value: u32, warn: bool) -> Result<Written, Refusal>
+pub fn separator(
+    given: Writer,
+    group: &mut [u8],
+    value: u32,
+    warn: bool,
+) -> Result<Written, Refusal>
     ensures { Meets (separator_call value warn (desk given group.old)) (answer_of given result) group.new }
 {
     sound::separator_refusal(given, group.len(), value)?;

@@ -3,7 +3,7 @@ use borrow.Author.Rules.{rules}
 use mathlib.Core.Path.{ap}
 use Prim.Native.Nat.{◌+◌}
 use Rattle.laying.specs.Laying.{Desk}
-use Rattle.writer.specs.declared.WriteAnswer.TheVariants.{Closed}
+use Rattle.writer.specs.WriteAnswer.{Closed}
 use Rattle.writer.specs.Calls.{done, closed}
 use Rattle.writer.proofs.calls.close.Statement.{statement}
 use Rattle.writer.proofs.calls.close.Tie as tie
