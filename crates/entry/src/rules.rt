@@ -8,7 +8,7 @@ ghost use Rattle.group.specs.ForContracts.{Meant};
 ghost use Rattle.counts.specs.Counts.{holds_data};
 ghost use Rattle.entry.specs.Rules.{may_follow, stand_after, sum_after, reached_after, b4_kept, follow_kept, may_owe, data_fault, entry_fault};
 ghost use Rattle.entry.specs.Scan.{after, reached_by};
-ghost use Rattle.entry.specs.Bounds.{Bounded};
+ghost use Rattle.entry.specs.Bounds.{stand_number, Bounded};
 
 use crate::{Cursor, Stand};
 use answer::refusals::Refusal;
@@ -23,12 +23,18 @@ const FOLLOWS: [[bool; 8]; 5] = [
     [false, true, false, false, false, false, false, false],
 ];
 
+fn stand_number(stand: Stand) -> usize
+    ensures { result ≡ stand_number stand }
+{
+    stand as usize
+}
+
 // A constant is built anew at each use, so the table is bound only where an entry needs it.
 fn may_follow(stand: Stand, kind: Kind) -> bool
     ensures { result ≡ may_follow stand kind }
 {
     let follows = FOLLOWS;
-    follows[stand as usize][kind as usize]
+    follows[stand_number(stand)][u32::from(kind) as usize]
 }
 
 // 10: the kind may follow, and a skip stands at entry n and nowhere else.
@@ -125,6 +131,7 @@ fn b4_kept(before: bool, warned: bool) -> bool
 // All rules of one entry, in this order: 8 where its flag has no meaning, 9, 10, 19 to 22, 12, 13 and 23. `limit` is L − 32 − 4n. Built
 // into each scan, so that the read, the one that the boot loader links, takes less code.
 #[inline(always)]
+#[tactic(auto, unfolding(crate::specs::Rules::entry_fault))]
 pub fn entry_fault(
     size: u32,
     limit: u32,
@@ -136,7 +143,9 @@ pub fn entry_fault(
     requires { (Bounded limit here) × ((limit ≤ size) × ((size ≤ standard_size) × (count ≤ longest_record))) }
     ensures { number_of refusal_number result ≡ entry_fault size limit last here meaning count }
 {
-    let (kind, warned) = meaning.ok_or(Refusal::Flag)?;
+    let Some((kind, warned)) = meaning else {
+        return Err(Refusal::Flag);
+    };
     if !b4_kept(here.warned, warned) {
         return Err(Refusal::B4);
     }
