@@ -18,6 +18,7 @@ fn next_reason(next: u32, number: u32) -> Reason
 }
 
 // In a state of this size and next number.
+#[tactic(auto, unfolding(reasons::specs::Reasons::call_reason))]
 pub fn call_reason(
     refusal: Refusal,
     size: u32,

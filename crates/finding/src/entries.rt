@@ -23,6 +23,7 @@ pub fn entry_offset(size: u32, place: u32) -> u32
 }
 
 // By the rule that entry k of n breaks, where the scan has come to `here`.
+#[tactic(auto, unfolding(reasons::specs::Reasons::entry_reason))]
 pub fn entry_reason(
     refusal: Refusal,
     size: u32,

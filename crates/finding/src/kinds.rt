@@ -7,6 +7,7 @@ use entry::Stand;
 use group::{Group, Kind};
 
 // The permitted kinds, as the sum of their values. At the last place a skip alone, 64, or none.
+#[tactic(auto, unfolding(reasons::specs::Reasons::permitted, entry::specs::Rules::may_follow))]
 fn permitted_last(stand: Stand) -> u64
     ensures { result ≡ permitted stand true }
 {
@@ -17,6 +18,7 @@ fn permitted_last(stand: Stand) -> u64
 }
 
 // Elsewhere separator, start and entire, middle and last, total, or none.
+#[tactic(auto, unfolding(reasons::specs::Reasons::permitted, entry::specs::Rules::may_follow))]
 pub(crate) fn permitted(stand: Stand, last: bool) -> u64
     ensures { result ≡ permitted stand last }
 {
