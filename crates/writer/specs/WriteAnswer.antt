@@ -5,7 +5,7 @@ use Rattle.answer.specs.declared.refusals.Refusal.{Refusal}
 use Rattle.answer.specs.Numbers.{refusal_number}
 use Rattle.laying.specs.declared.Writer.{Writer}
 use Rattle.writer.specs.declared.Written.{Written}
-use Rattle.writer.specs.declared.Written.TheVariants as written
+use Rattle.writer.specs.declared.Written.TheVariants as code
 
 -- The work is finished, or the group is closed, or the call is refused, with the state as given.
 pub data WriteAnswer : Type 0 where
@@ -14,8 +14,8 @@ pub data WriteAnswer : Type 0 where
   Refused : Writer → (refusal : ℕ) → WriteAnswer
 
 abbrev pub written : Written → WriteAnswer
-written (written.Finished w) = Finished w
-written (written.Closed w number entries taken) = Closed w number entries taken
+written (code.Finished w) = Finished w
+written (code.Closed w number entries taken) = Closed w number entries taken
 
 -- In the given state.
 abbrev pub answer_of : Writer → Result Written Refusal → WriteAnswer

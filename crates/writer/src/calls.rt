@@ -12,6 +12,7 @@ use group::{Kind, Phase};
 use laying::{Fit, Writer, lay, room};
 
 // The group is closed: its number, the entries that it holds with the skip, and the bytes that the call took.
+#[tactic(auto, unfolding(crate::specs::Calls::closed))]
 pub(crate) fn close(w: Writer, group: &mut [u8], taken: u32) -> Written
     requires roomy { Roomy w group.old }
     requires next_le_last_number { w.next ≤ last_number }
@@ -27,6 +28,7 @@ pub(crate) fn close(w: Writer, group: &mut [u8], taken: u32) -> Written
 }
 
 // A record of a free writer: whole, as a start that fills the group, or none of it.
+#[tactic(auto, unfolding(crate::specs::Calls::record_free, crate::specs::Calls::by_fit, crate::specs::Calls::finished, laying::specs::Laying::moved), using(laying::proofs::RoomLaws::fitted_entire, laying::proofs::RoomLaws::fitted_start, laying::proofs::RoomLaws::start_long))]
 pub(crate) fn record_free(w: Writer, group: &mut [u8], data: &[u8]) -> Written
     requires roomy { Roomy w group.old }
     requires next_le_last_number { (w.next ≤ last_number) × (length «data».now ≤ longest_record) }
@@ -46,6 +48,7 @@ pub(crate) fn record_free(w: Writer, group: &mut [u8], data: &[u8]) -> Written
 }
 
 // As much of an open record as a group has room for.
+#[tactic(auto, unfolding(crate::specs::Calls::middle, laying::specs::Laying::moved))]
 fn record_middle(w: Writer, group: &mut [u8], data: &[u8], most: u32) -> Written
     requires roomy { Roomy w group.old }
     requires opened { Opened w (length «data».now) }
@@ -60,6 +63,7 @@ fn record_middle(w: Writer, group: &mut [u8], data: &[u8], most: u32) -> Written
 }
 
 // The last part of an open record, with its total where both have room.
+#[tactic(auto, unfolding(crate::specs::Calls::last, crate::specs::Calls::finished, laying::specs::Laying::moved))]
 fn record_last(w: Writer, group: &mut [u8], data: &[u8]) -> Written
     requires roomy { Roomy w group.old }
     requires opened { Opened w (length «data».now) }
@@ -78,6 +82,7 @@ fn record_last(w: Writer, group: &mut [u8], data: &[u8]) -> Written
 }
 
 // More of an open record: a middle part, or the last.
+#[tactic(auto, unfolding(crate::specs::Calls::record_inside))]
 pub(crate) fn record_inside(w: Writer, group: &mut [u8], data: &[u8]) -> Written
     requires roomy { Roomy w group.old }
     requires opened { Opened w (length «data».now) }
@@ -92,6 +97,7 @@ pub(crate) fn record_inside(w: Writer, group: &mut [u8], data: &[u8]) -> Written
 }
 
 // A separator: laid where it and the skip have room.
+#[tactic(auto, unfolding(crate::specs::Calls::separator_accepted, crate::specs::Calls::finished), using(laying::proofs::SignedLaws::le_read))]
 pub(crate) fn separator(w: Writer, group: &mut [u8], value: u32) -> Written
     requires roomy { Roomy w group.old }
     requires next_le_last_number { w.next ≤ last_number }

@@ -26,6 +26,7 @@ pub enum Written {
 }
 
 // A record's bytes: whole, or as many as the group takes.
+#[tactic(auto, unfolding(crate::specs::Calls::record_call, crate::specs::Calls::or_refused, crate::specs::Calls::record_accepted), using(answer::specs::NotZero::refusal_not_zero, sound::proofs::Accepted::record_accepted_lem, sound::proofs::Accepted::is_ready, sound::proofs::Accepted::opened))]
 pub fn record(given: Writer, group: &mut [u8], data: &[u8], warn: bool) -> Result<Written, Refusal>
     ensures { Meets (record_call «data».now warn (desk given group.old)) (answer_of given result) group.new }
 {
@@ -39,6 +40,7 @@ pub fn record(given: Writer, group: &mut [u8], data: &[u8], warn: bool) -> Resul
 }
 
 // Separator 1 is value 0, Separator 2 is value 1.
+#[tactic(auto, unfolding(crate::specs::Calls::separator_call, crate::specs::Calls::or_refused), using(answer::specs::NotZero::refusal_not_zero, sound::proofs::Accepted::separator_accepted_lem, sound::proofs::Accepted::is_ready))]
 pub fn separator(
     given: Writer,
     group: &mut [u8],
@@ -53,6 +55,7 @@ pub fn separator(
 }
 
 // The end of the run's data: a group that holds an entry, or that a total is owed to, is closed.
+#[tactic(auto, unfolding(crate::specs::Calls::end_call, crate::specs::Calls::or_refused, crate::specs::Calls::end_accepted, crate::specs::Calls::finished), using(answer::specs::NotZero::refusal_not_zero, sound::proofs::Accepted::end_accepted_lem, sound::proofs::Accepted::is_ready))]
 pub fn end(given: Writer, group: &mut [u8], warn: bool) -> Result<Written, Refusal>
     ensures { Meets (end_call warn (desk given group.old)) (answer_of given result) group.new }
 {
