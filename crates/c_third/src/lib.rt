@@ -2,21 +2,14 @@
 #![tactic(auto)]
 
 ghost use Rattle.std.specs.Prelude.{◌≡◌, [], ◌∷◌};
-ghost use Rattle.third.specs.Answer.{told};
 ghost use Rattle.slices.specs.Call.{left};
 ghost use Rattle.c_third.specs.Calls.{dds_third_make, dds_third_check, dds_third_restore_one, dds_third_restore_two, dds_third_mend};
 
-use answer::Told;
-use third::{ThirdAnswer, ThirdCode};
+use answer::{Outcome, Refused, Told};
 
-// What a call tells of its answer.
-fn told(done: ThirdAnswer) -> Told
-    ensures { result ≡ told done }
-{
-    match done {
-        ThirdAnswer::Accepted { outcome } => Told::Accepted(outcome, 0, 0, 0),
-        ThirdAnswer::Refused { refusal, place } => Told::RefusedAt(refusal, place),
-    }
+// What a call tells that has no more to tell than that it is accepted.
+fn told(done: Result<(), Refused>) -> Told {
+    done.map(|()| Outcome::default())
 }
 
 // The two check rows made from the rows of data.
@@ -26,8 +19,7 @@ pub fn make(n: u32, rows: &mut [u8], answer: &mut [u8]) -> u32
     if answer.len() != slices::ANSWER_LENGTH {
         return 1;
     }
-    let done = ThirdCode::make(n, rows);
-    slices::tell(answer, told(done))
+    slices::tell(answer, told(third::make(n, rows)))
 }
 
 // Whether every column keeps both rules.
@@ -37,8 +29,11 @@ pub fn check(n: u32, rows: &[u8], answer: &mut [u8]) -> u32
     if answer.len() != slices::ANSWER_LENGTH {
         return 1;
     }
-    let done = ThirdCode::check(n, rows);
-    slices::tell(answer, told(done))
+    let told = third::check(n, rows).map(|kept| Outcome {
+        outcome: u32::from(!kept),
+        ..Outcome::default()
+    });
+    slices::tell(answer, told)
 }
 
 // One row restored from the others.
@@ -48,8 +43,7 @@ pub fn restore_one(n: u32, row: u32, rows: &mut [u8], answer: &mut [u8]) -> u32
     if answer.len() != slices::ANSWER_LENGTH {
         return 1;
     }
-    let done = ThirdCode::restore_one(n, row, rows);
-    slices::tell(answer, told(done))
+    slices::tell(answer, told(third::restore_one(n, row, rows)))
 }
 
 // Two rows restored from the others.
@@ -59,8 +53,7 @@ pub fn restore_two(n: u32, first: u32, second: u32, rows: &mut [u8], answer: &mu
     if answer.len() != slices::ANSWER_LENGTH {
         return 1;
     }
-    let done = ThirdCode::restore_two(n, first, second, rows);
-    slices::tell(answer, told(done))
+    slices::tell(answer, told(third::restore_two(n, first, second, rows)))
 }
 
 // With no row named, one wrong byte of each column mended.
@@ -70,6 +63,5 @@ pub fn mend(n: u32, rows: &mut [u8], answer: &mut [u8]) -> u32
     if answer.len() != slices::ANSWER_LENGTH {
         return 1;
     }
-    let done = ThirdCode::mend(n, rows);
-    slices::tell(answer, told(done))
+    slices::tell(answer, told(third::mend(n, rows)))
 }
