@@ -5,7 +5,7 @@ use mathlib.Core.Bool.{true}
 use mathlib.Core.List.{List, [], ◌∷◌}
 use Prim.Native.Nat.{ℕ}
 use Rattle.answer.specs.Answer.{Told}
-use Rattle.third.specs.declared.ThirdAnswer.{ThirdAnswer}
+use Rattle.third.specs.Answer.{ThirdAnswer}
 use Rattle.column.specs.Column.{Column}
 use Rattle.third.specs.Answer.{Checks, told, Does}
 use Rattle.slices.specs.Call.{left, answer_kept, Tells}

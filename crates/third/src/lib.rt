@@ -19,7 +19,7 @@ pub const FIRST_CHECK_ROW: usize = 44;
 pub fn make(n: u32, rows: &mut [u8]) -> Result<(), Refused>
     ensures { Makes n rows.old (done_answer result) rows.new }
 {
-    refusals::keep_length(rows.len(), n)?;
+    refusals::length_refusal(rows.len(), n)?;
     restoring::restore_both(rows, n as usize, FIRST_CHECK_ROW, LAST_ROW);
     Ok(())
 }
@@ -28,7 +28,7 @@ pub fn make(n: u32, rows: &mut [u8]) -> Result<(), Refused>
 pub fn check(n: u32, rows: &[u8]) -> Result<bool, Refused>
     ensures { Checks n rows.now (checked_answer result) }
 {
-    refusals::keep_length(rows.len(), n)?;
+    refusals::length_refusal(rows.len(), n)?;
     Ok(restoring::first_broken(rows, n as usize).is_none())
 }
 
@@ -36,7 +36,7 @@ pub fn check(n: u32, rows: &[u8]) -> Result<bool, Refused>
 pub fn restore_one(n: u32, row: u32, rows: &mut [u8]) -> Result<(), Refused>
     ensures { RestoresOne n row rows.old (done_answer result) rows.new }
 {
-    refusals::keep_one(rows.len(), n, row)?;
+    refusals::one_refusal(rows.len(), n, row)?;
     restoring::restore_row(rows, n as usize, row as usize);
     Ok(())
 }
@@ -45,7 +45,7 @@ pub fn restore_one(n: u32, row: u32, rows: &mut [u8]) -> Result<(), Refused>
 pub fn restore_two(n: u32, first: u32, second: u32, rows: &mut [u8]) -> Result<(), Refused>
     ensures { RestoresTwo n first second rows.old (done_answer result) rows.new }
 {
-    refusals::keep_two(rows.len(), n, first, second)?;
+    refusals::two_refusal(rows.len(), n, first, second)?;
     restoring::restore_both(rows, n as usize, first as usize, second as usize);
     Ok(())
 }
@@ -54,7 +54,7 @@ pub fn restore_two(n: u32, first: u32, second: u32, rows: &mut [u8]) -> Result<(
 pub fn mend(n: u32, rows: &mut [u8]) -> Result<(), Refused>
     ensures { Mends n rows.old (done_answer result) rows.new }
 {
-    refusals::keep_length(rows.len(), n)?;
+    refusals::length_refusal(rows.len(), n)?;
     let logarithms = Logarithms::new();
     if let Some(c) = restoring::first_hopeless(rows, &logarithms, n as usize) {
         return Err(Refused {

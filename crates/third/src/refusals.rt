@@ -7,13 +7,15 @@ use answer::Refusal;
 use column::{LAST_ROW, ROW_COUNT};
 
 // Whether the buffer is 46 rows of a row length that is not 0. Compared by division: 46 rows may be more than a number holds.
+#[tactic(auto, unfolding(crate::specs::Answer::length_kept), using(numbers::proofs::Tests::tests))]
 fn length_kept(total: usize, n: usize) -> bool
     ensures { result ≡ length_kept total n }
 {
     n > 0 && total % ROW_COUNT == 0 && total / ROW_COUNT == n
 }
 
-pub(crate) fn keep_length(total: usize, n: u32) -> Result<(), Refusal>
+#[tactic(auto, unfolding(crate::specs::Answer::length_refusal), using(numbers::proofs::Tests::tests))]
+pub(crate) fn length_refusal(total: usize, n: u32) -> Result<(), Refusal>
     ensures { number_of result ≡ length_refusal total n }
 {
     if !length_kept(total, n as usize) {
@@ -22,20 +24,22 @@ pub(crate) fn keep_length(total: usize, n: u32) -> Result<(), Refusal>
     Ok(())
 }
 
-pub(crate) fn keep_one(total: usize, n: u32, row: u32) -> Result<(), Refusal>
+#[tactic(auto, unfolding(crate::specs::Answer::one_refusal), using(numbers::proofs::Tests::tests))]
+pub(crate) fn one_refusal(total: usize, n: u32, row: u32) -> Result<(), Refusal>
     ensures { number_of result ≡ one_refusal total n row }
 {
-    keep_length(total, n)?;
+    length_refusal(total, n)?;
     if row as usize > LAST_ROW {
         return Err(Refusal::Row);
     }
     Ok(())
 }
 
-pub(crate) fn keep_two(total: usize, n: u32, first: u32, second: u32) -> Result<(), Refusal>
+#[tactic(auto, unfolding(crate::specs::Answer::two_refusal), using(numbers::proofs::Tests::tests))]
+pub(crate) fn two_refusal(total: usize, n: u32, first: u32, second: u32) -> Result<(), Refusal>
     ensures { number_of result ≡ two_refusal total n first second }
 {
-    keep_one(total, n, first)?;
+    one_refusal(total, n, first)?;
     if second as usize > LAST_ROW {
         return Err(Refusal::Row);
     }
