@@ -2,24 +2,34 @@
 #![tactic(auto)]
 
 ghost use Rattle.std.specs.Prelude.{◌≡◌, [], ◌∷◌};
+ghost use Rattle.std.specs.Fn.{FnOnceReturnsAtMut};
 ghost use Rattle.slices.specs.Call.{left};
 ghost use Rattle.c_third.specs.Calls.{dds_third_make, dds_third_check, dds_third_restore_one, dds_third_restore_two, dds_third_mend};
+ghost use Rattle.c_third.specs.Answered.{Answered};
 
-use answer::{Outcome, Refused, Told};
+use answer::{Outcome, Refused};
 
-// What a call tells that has no more to tell than that it is accepted.
-fn told(done: Result<(), Refused>) -> Told {
-    done.map(|()| Outcome::default())
+// A call that may write the rows. With an answer slice of another length it is not made, and 1 is returned.
+fn answered<F: FnOnce(&mut [u8]) -> Result<(), Refused>>(
+    rows: &mut [u8],
+    answer: &mut [u8],
+    call: F,
+) -> u32
+    requires { F.IsAlwaysCallable call }
+    ensures { Answered (FnOnceReturnsAtMut F.FnOnce call rows.old) rows.old answer.old (left result (rows.new ∷ []) answer.new) }
+{
+    if answer.len() != slices::ANSWER_LENGTH {
+        return 1;
+    }
+    let done = call(rows);
+    slices::tell(answer, done.map(|()| Outcome::default()))
 }
 
 // The two check rows made from the rows of data.
 pub fn make(n: u32, rows: &mut [u8], answer: &mut [u8]) -> u32
     ensures { left result (rows.new ∷ []) answer.new ≡ dds_third_make n rows.old answer.old }
 {
-    if answer.len() != slices::ANSWER_LENGTH {
-        return 1;
-    }
-    slices::tell(answer, told(third::make(n, rows)))
+    answered(rows, answer, |rows| third::make(n, rows))
 }
 
 // Whether every column keeps both rules.
@@ -40,28 +50,23 @@ pub fn check(n: u32, rows: &[u8], answer: &mut [u8]) -> u32
 pub fn restore_one(n: u32, row: u32, rows: &mut [u8], answer: &mut [u8]) -> u32
     ensures { left result (rows.new ∷ []) answer.new ≡ dds_third_restore_one n row rows.old answer.old }
 {
-    if answer.len() != slices::ANSWER_LENGTH {
-        return 1;
-    }
-    slices::tell(answer, told(third::restore_one(n, row, rows)))
+    answered(rows, answer, |rows| third::restore_one(n, row, rows))
 }
 
 // Two rows restored from the others.
 pub fn restore_two(n: u32, first: u32, second: u32, rows: &mut [u8], answer: &mut [u8]) -> u32
     ensures { left result (rows.new ∷ []) answer.new ≡ dds_third_restore_two n first second rows.old answer.old }
 {
-    if answer.len() != slices::ANSWER_LENGTH {
-        return 1;
-    }
-    slices::tell(answer, told(third::restore_two(n, first, second, rows)))
+    answered(
+        rows,
+        answer,
+        |rows| third::restore_two(n, first, second, rows),
+    )
 }
 
 // With no row named, one wrong byte of each column mended.
 pub fn mend(n: u32, rows: &mut [u8], answer: &mut [u8]) -> u32
     ensures { left result (rows.new ∷ []) answer.new ≡ dds_third_mend n rows.old answer.old }
 {
-    if answer.len() != slices::ANSWER_LENGTH {
-        return 1;
-    }
-    slices::tell(answer, told(third::mend(n, rows)))
+    answered(rows, answer, |rows| third::mend(n, rows))
 }
