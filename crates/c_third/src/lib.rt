@@ -26,6 +26,7 @@ fn answered<F: FnOnce(&mut [u8]) -> Result<(), Refused>>(
 }
 
 // The two check rows made from the rows of data.
+#[tactic(auto, using(crate::proofs::Laws::done))]
 pub fn make(n: u32, rows: &mut [u8], answer: &mut [u8]) -> u32
     ensures { left result (rows.new ∷ []) answer.new ≡ dds_third_make n rows.old answer.old }
 {
@@ -33,6 +34,7 @@ pub fn make(n: u32, rows: &mut [u8], answer: &mut [u8]) -> u32
 }
 
 // Whether every column keeps both rules.
+#[tactic(auto, using(slices::proofs::Calls::stopped), unfolding(crate::specs::Calls::dds_third_check))]
 pub fn check(n: u32, rows: &[u8], answer: &mut [u8]) -> u32
     ensures { left result [] answer.new ≡ dds_third_check n rows.now answer.old }
 {
@@ -47,6 +49,7 @@ pub fn check(n: u32, rows: &[u8], answer: &mut [u8]) -> u32
 }
 
 // One row restored from the others.
+#[tactic(auto, using(crate::proofs::Laws::done))]
 pub fn restore_one(n: u32, row: u32, rows: &mut [u8], answer: &mut [u8]) -> u32
     ensures { left result (rows.new ∷ []) answer.new ≡ dds_third_restore_one n row rows.old answer.old }
 {
@@ -54,6 +57,7 @@ pub fn restore_one(n: u32, row: u32, rows: &mut [u8], answer: &mut [u8]) -> u32
 }
 
 // Two rows restored from the others.
+#[tactic(auto, using(crate::proofs::Laws::done))]
 pub fn restore_two(n: u32, first: u32, second: u32, rows: &mut [u8], answer: &mut [u8]) -> u32
     ensures { left result (rows.new ∷ []) answer.new ≡ dds_third_restore_two n first second rows.old answer.old }
 {
@@ -65,6 +69,7 @@ pub fn restore_two(n: u32, first: u32, second: u32, rows: &mut [u8], answer: &mu
 }
 
 // With no row named, one wrong byte of each column mended.
+#[tactic(auto, using(crate::proofs::Laws::done))]
 pub fn mend(n: u32, rows: &mut [u8], answer: &mut [u8]) -> u32
     ensures { left result (rows.new ∷ []) answer.new ≡ dds_third_mend n rows.old answer.old }
 {

@@ -1,13 +1,15 @@
 // What is done to one column of the buffer: a row restored, two rows, a wrong byte mended.
-ghost use Rattle.std.specs.Prelude.{◌≡◌, ◌+◌, ◌*◌, ◌≤◌, ◌<◌, length, set, ⊤};
+ghost use Rattle.std.specs.Prelude.{◌≡◌, ◌*◌, ◌<◌, length, ⊤};
 ghost use Rattle.column.specs.Column.{row_count, Column, column, restored_one, apart, restored_two, none_mends, wrong_in, mended};
-ghost use Rattle.restoring.specs.Turns.{changed, Turn};
+ghost use Rattle.restoring.specs.Turns.{Turn};
 
 use column::{Sums, Wrong};
 use field::Field;
 use field::tables::Logarithms;
 
-// A step does one thing to a column, where it may, and nothing to the other columns.
+// A step does one thing to a column, where it may, and nothing to the other columns. Named rows are taken out before the sums are
+// made: what they held is not looked at. n stays beside the rows: a struct of both would be two, one lent to read and one to write,
+// and each call that writes would promise besides that n stays.
 pub(crate) trait Step {
     ghost does: { Self → Column → Column };
 
@@ -43,31 +45,15 @@ pub(crate) struct Mending<'a> {
     pub(crate) logarithms: &'a Logarithms,
 }
 
-// x put in the place of the byte of row i and column c, which is not looked at.
-fn put(rows: &mut [u8], n: usize, i: usize, c: usize, x: u8)
-    requires { (i < row_count) × (c < n) × (length rows.old ≡ row_count * n) }
-    ensures { rows.new ≡ set rows.old (i * n + c) x }
-{
-    rows[column::place(n, i, c)] = x;
-}
-
-// x added to the byte of row i and column c.
-fn change(rows: &mut [u8], n: usize, i: usize, c: usize, x: u8)
-    requires { (i < row_count) × (c < n) × (length rows.old ≡ row_count * n) }
-    ensures { rows.new ≡ changed rows.old n i c x }
-{
-    rows[column::place(n, i, c)] ^= x;
-}
-
 impl Step for One {
     ghost does = { λ s. restored_one s.row };
 
     ghost may = { λ s col. ⊤ };
 
     fn take(&self, rows: &mut [u8], n: usize, c: usize) {
-        put(rows, n, self.row, c, 0);
-        let s = Sums::of(rows, n, c);
-        put(rows, n, self.row, c, s.first);
+        let at = column::place(n, self.row, c);
+        rows[at] = 0;
+        rows[at] = Sums::of(rows, n, c).first;
     }
 }
 
@@ -77,12 +63,14 @@ impl<'a> Step for Two<'a> {
     ghost may = { λ s col. ⊤ };
 
     fn take(&self, rows: &mut [u8], n: usize, c: usize) {
-        put(rows, n, self.first, c, 0);
-        put(rows, n, self.second, c, 0);
+        let first = column::place(n, self.first, c);
+        let second = column::place(n, self.second, c);
+        rows[first] = 0;
+        rows[second] = 0;
         let s = Sums::of(rows, n, c);
         let x = s.lacking(self.field, self.distance, self.first, self.second);
-        put(rows, n, self.first, c, x);
-        put(rows, n, self.second, c, s.first ^ x);
+        rows[first] = x;
+        rows[second] = s.first ^ x;
     }
 }
 
@@ -94,7 +82,7 @@ impl<'a> Step for Mending<'a> {
     fn take(&self, rows: &mut [u8], n: usize, c: usize) {
         let s = Sums::of(rows, n, c);
         if let Wrong::Row(i) = s.wrong_row(self.logarithms) {
-            change(rows, n, i, c, s.first);
+            rows[column::place(n, i, c)] ^= s.first;
         }
     }
 }

@@ -24,7 +24,7 @@ pub(crate) fn length_refusal(total: usize, n: u32) -> Result<(), Refusal>
     Ok(())
 }
 
-#[tactic(auto, unfolding(crate::specs::Answer::one_refusal), using(numbers::proofs::Tests::tests))]
+#[tactic(auto, using(crate::proofs::Answers::one_stays, crate::proofs::Answers::one_goes, crate::proofs::Answers::is_refusal, numbers::proofs::Tests::tests))]
 pub(crate) fn one_refusal(total: usize, n: u32, row: u32) -> Result<(), Refusal>
     ensures { number_of result ≡ one_refusal total n row }
 {
@@ -35,7 +35,7 @@ pub(crate) fn one_refusal(total: usize, n: u32, row: u32) -> Result<(), Refusal>
     Ok(())
 }
 
-#[tactic(auto, unfolding(crate::specs::Answer::two_refusal), using(numbers::proofs::Tests::tests))]
+#[tactic(auto, using(numbers::proofs::Tests::tests, crate::proofs::Answers::two_stays, crate::proofs::Answers::two_goes, crate::proofs::Answers::is_refusal))]
 pub(crate) fn two_refusal(total: usize, n: u32, first: u32, second: u32) -> Result<(), Refusal>
     ensures { number_of result ≡ two_refusal total n first second }
 {

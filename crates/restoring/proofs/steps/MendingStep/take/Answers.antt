@@ -13,8 +13,9 @@ pub returns-in-Row : goal.returns-in-Row
 returns-in-Row c =
     let a = c.args in
     let sums = c.of-s in
-    places.turn_mend a.rows.now a.n a.c c.requires.there.1 c.requires.there.0 c.change.new.rows c.in-Row.i sums.result.first
-    c.in-Row.ensures.1 sums.ensures.0 (sym c.in-Row.ensures.0 ∙ ap₂ wrong_row sums.ensures.0 sums.ensures.1) c.change.ensures
+    places.turn_mend a.rows.now a.n a.c c.requires.there.1 c.requires.there.0 _ c.in-Row.i sums.result.first
+    c.in-Row.ensures.1 sums.ensures.0 (sym c.in-Row.ensures.0 ∙ ap₂ wrong_row sums.ensures.0 sums.ensures.1)
+    (places.stored a.rows.now a.n c.in-Row.i a.c sums.result.first c.place.result c.place.ensures.0)
 
 no_row : (w : Wrong) (row : ℕ) → IsWrong w row → ((i : ℕ) → w ≡ Row i → ⊥) → row < none_mends → row ≡ none_wrong
 no_row NoRow row e d h = e

@@ -7,8 +7,7 @@ use lib.Dec.{T, eqb, eqb→eq}
 use lib.Bits.{bit_xor}
 use Rattle.numbers.proofs.Computed.{below}
 use Rattle.field.specs.Field.{◌⊕◌, times_alpha, polynomial}
-use Rattle.field.proofs.times_alpha.Statement.{statement}
-use Rattle.field.proofs.times_alpha.Tie as tie
+use Rattle.field.proofs.times_alpha.Goals as goal
 
 -- Doubling a byte: its seven low bits go one up, and the eighth turns into 29.
 stepped : ℕ → Bool
@@ -22,8 +21,5 @@ times_alpha_stepped : (b : ℕ) → b < 256 → bit_xor (b % 128 * 2) (b / 128 *
 unfolding stepped
 times_alpha_stepped b h = eqb→eq (bit_xor (b % 128 * 2) (b / 128 * 29)) (times_alpha b) (stepped_all b h)
 
-returns : tie.Need-returns
+pub returns : goal.returns
 returns c = times_alpha_stepped c.args.byte (search rules)
-
-pub times_alpha_spec : {M : Type 1} → statement M
-times_alpha_spec = tie.close (tie.spec (λ c. search rules) (λ c. search rules) returns)
