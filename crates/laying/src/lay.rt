@@ -11,6 +11,7 @@ use group::{Kind, Phase, entries, flags};
 use numbers::bytes;
 
 // One entry more, below those that stand.
+#[tactic(auto, unfolding(crate::specs::Laying::lay_entry))]
 pub fn lay_entry(w: Writer, group: &mut [u8], kind: Kind, count: u32) -> Writer
     requires { Roomy w group.old }
     ensures group_after { desk result group.new ≡ lay_entry kind count (desk w group.old) }
@@ -24,6 +25,7 @@ pub fn lay_entry(w: Writer, group: &mut [u8], kind: Kind, count: u32) -> Writer
 }
 
 // Data after the data that stands, and its entry.
+#[tactic(auto, unfolding(crate::specs::Laying::lay_part, crate::specs::Laying::lay_data))]
 pub fn lay_part(w: Writer, group: &mut [u8], kind: Kind, data: &[u8]) -> Writer
     requires roomy { Roomy w group.old }
     requires entries_bound { span (w.filled + length «data».now) (w.entries + 1) ≤ w.size }
@@ -53,6 +55,7 @@ pub fn moved(w: Writer, phase: Phase, sum: u32, rest: u32) -> Writer
 }
 
 // The skip, zeros in the gap, and the state at the next group.
+#[tactic(auto, unfolding(crate::specs::Laying::shut, crate::specs::Laying::zero_gap, crate::specs::Laying::lay_skip))]
 pub fn shut(w: Writer, group: &mut [u8]) -> Writer
     requires roomy { Roomy w group.old }
     requires next_le_last_number { w.next ≤ last_number }
@@ -71,17 +74,19 @@ pub fn shut(w: Writer, group: &mut [u8]) -> Writer
 }
 
 // b4 as the call says: once set it stays.
+#[tactic(auto, unfolding(crate::specs::Laying::warn_state))]
 fn warn_state(w: Writer, warn: bool) -> Writer
     ensures value { result ≡ warn_state warn w }
     ensures grown { Grown result w 0 0 }
 {
     Writer {
-        warned: w.warned || warn,
+        warned: warn || w.warned,
         ..w
     }
 }
 
 // b4 is set, and an owed total is laid.
+#[tactic(auto, unfolding(crate::specs::Laying::warn_state, crate::specs::Laying::ready, crate::specs::Laying::pay_owed, crate::specs::Laying::moved))]
 pub fn ready(w: Writer, group: &mut [u8], warn: bool) -> Writer
     requires { Ready w group.old }
     ensures group_after { desk result group.new ≡ ready warn (desk w group.old) }

@@ -29,6 +29,7 @@ pub struct Writer {
 
 impl Writer {
     // A fresh writer: free, with nothing laid.
+    #[tactic(auto, unfolding(crate::specs::Start::writer_start_call), using(answer::specs::NotZero::refusal_not_zero))]
     pub fn start(size: u32, first: u32) -> Result<Writer, Refusal>
         ensures { start_of refusal_number result ≡ writer_start_call size first }
     {

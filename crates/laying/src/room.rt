@@ -16,6 +16,7 @@ pub fn entry_offset(size: u32, k: u32) -> u32
 }
 
 // The room: a signed number from -4 on.
+#[tactic(auto, unfolding(crate::specs::Room::room), using(crate::proofs::SignedLaws::minus_four_fits, crate::proofs::SignedLaws::minus_four, crate::proofs::SignedLaws::sub_eq))]
 pub fn room(w: Writer) -> i64
     requires { span w.filled (w.entries + 1) ≤ w.size }
     ensures { result ≡ room w }

@@ -19,6 +19,7 @@ fn is_empty(w: Writer) -> bool
 }
 
 // The sum is taken in 64 bits: any number may come in.
+#[tactic(auto, unfolding(crate::specs::State::room_kept), using(numbers::proofs::Tests::tests))]
 fn room_kept(w: Writer) -> bool
     ensures { result ≡ room_kept w }
 {
@@ -27,12 +28,14 @@ fn room_kept(w: Writer) -> bool
         || (w.filled as u64) + (Group::INFORMATION_LENGTH as u64) + table <= w.size as u64
 }
 
+#[tactic(auto, unfolding(crate::specs::State::empty_kept), using(numbers::proofs::Tests::tests))]
 fn empty_kept(w: Writer) -> bool
     ensures { result ≡ empty_kept w }
 {
     w.phase == Phase::Free || is_empty(w)
 }
 
+#[tactic(auto, unfolding(crate::specs::State::rest_kept), using(numbers::proofs::Tests::tests))]
 fn rest_kept(w: Writer) -> bool
     ensures { result ≡ rest_kept w }
 {
@@ -42,18 +45,21 @@ fn rest_kept(w: Writer) -> bool
     1 <= w.rest && (w.sum as u64) + (w.rest as u64) <= Group::LONGEST_RECORD as u64
 }
 
+#[tactic(auto, unfolding(crate::specs::State::data_kept), using(numbers::proofs::Tests::tests))]
 fn data_kept(w: Writer) -> bool
     ensures { result ≡ data_kept w }
 {
     w.filled == 0 || 0 < w.entries
 }
 
+#[tactic(auto, unfolding(crate::specs::State::spent_kept), using(numbers::proofs::Tests::tests))]
 fn spent_kept(w: Writer) -> bool
     ensures { result ≡ spent_kept w }
 {
     w.next != Group::LAST_NUMBER + 1 || is_empty(w)
 }
 
+#[tactic(auto, unfolding(crate::specs::State::writer_sound), using(numbers::proofs::Tests::tests))]
 fn is_sound(w: Writer) -> bool
     ensures { result ≡ writer_sound w }
 {
@@ -66,6 +72,7 @@ fn is_sound(w: Writer) -> bool
 }
 
 // What a record's call refuses.
+#[tactic(auto, unfolding(crate::specs::State::record_refusal), using(numbers::proofs::Tests::tests))]
 pub fn record_refusal(w: Writer, len: usize, n: usize) -> Result<(), Refusal>
     ensures { number_of refusal_number result ≡ record_refusal w len n }
 {
@@ -87,6 +94,7 @@ pub fn record_refusal(w: Writer, len: usize, n: usize) -> Result<(), Refusal>
     Ok(())
 }
 
+#[tactic(auto, unfolding(crate::specs::State::separator_refusal), using(numbers::proofs::Tests::tests))]
 pub fn separator_refusal(w: Writer, len: usize, value: u32) -> Result<(), Refusal>
     ensures { number_of refusal_number result ≡ separator_refusal w len value }
 {
@@ -108,6 +116,7 @@ pub fn separator_refusal(w: Writer, len: usize, value: u32) -> Result<(), Refusa
     Ok(())
 }
 
+#[tactic(auto, unfolding(crate::specs::State::end_refusal), using(numbers::proofs::Tests::tests))]
 pub fn end_refusal(w: Writer, len: usize) -> Result<(), Refusal>
     ensures { number_of refusal_number result ≡ end_refusal w len }
 {
