@@ -11,6 +11,7 @@ ghost use Rattle.blockrule.specs.Bounds.{other_at};
 use group::Group;
 
 // Whether a flag is a total's or an entire record's, whose count is the length of a whole record.
+#[tactic(auto, using(crate::proofs::Lengths::length_flags))]
 fn is_length(flag: u8) -> bool
     ensures { result ≡ is_length (meaning_of flag) }
 {

@@ -51,6 +51,7 @@ pub fn meaning_in(flags: &[[u8; 16]; 16], flag: u8) -> Meaning
     requires { flags.now ≡ flag_table }
     ensures { result ≡ meaning_of flag }
 {
-    let kind = Kind::try_from(code_in(flags, flag) / 2).ok()?;
+    let code = code_in(flags, flag);
+    let kind = Kind::try_from(code / 2).ok()?;
     Some((kind, group::flags::b4(flag)))
 }

@@ -3,12 +3,8 @@
 use mathlib.Core.Path.{refl}
 use Rattle.group.specs.Flags.{meaning_of}
 use Rattle.flag_table.specs.Table.{flag_table}
-use Rattle.flag_table.proofs.table.Statement.{statement}
-use Rattle.flag_table.proofs.table.Tie as tie
+use Rattle.flag_table.proofs.table.Goals as goal
 
-returns : tie.Need-returns
+pub returns : goal.returns
 unfolding flag_table meaning_of
 returns c = refl
-
-pub table_spec : {M : Type 1} → statement M
-table_spec = tie.close (tie.spec returns)
