@@ -5,6 +5,7 @@ use mathlib.Core.Path.{◌≡◌, refl, ◌∙◌}
 use mathlib.Core.Bool.{Bool, true, false}
 use mathlib.Core.List.{List, []}
 use Prim.Native.Nat.{ℕ}
+use Rattle.answer.specs.declared.refusals.ThirdRefusal.{ThirdRefusal}
 use Rattle.std.specs.Prelude.{Result}
 use Rattle.answer.specs.Answer.{Told}
 use Rattle.answer.specs.declared.Refused.{Refused}
@@ -16,8 +17,8 @@ use Rattle.c_third.specs.Calls.{third_call, dds_third_check}
 use Rattle.c_third.specs.Answered.{Answered}
 
 -- A call that may write the rows does f to every column, where it is accepted.
-pub done : {A : Type 0} (asked : ThirdAnswer) (f : Column → Column) (n : ℕ) (rows answer : List ℕ) {makes : Result A Refused → List ℕ → Type 0} (o : Left)
-    → Answered makes rows answer o → ((r : Result A Refused) (rows' : List ℕ) → makes r rows' → Does asked f n rows (done_answer r) rows')
+pub done : {A : Type 0} (asked : ThirdAnswer) (f : Column → Column) (n : ℕ) (rows answer : List ℕ) {makes : Result A (Refused ThirdRefusal) → List ℕ → Type 0} (o : Left)
+    → Answered makes rows answer o → ((r : Result A (Refused ThirdRefusal)) (rows' : List ℕ) → makes r rows' → Does asked f n rows (done_answer r) rows')
     → o ≡ third_call asked f n rows answer
 unfolding third_call
 done {A} asked f n rows answer {makes} o h does = by (answer_kept answer) refl

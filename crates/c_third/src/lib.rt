@@ -7,10 +7,11 @@ ghost use Rattle.slices.specs.Call.{left};
 ghost use Rattle.c_third.specs.Calls.{dds_third_make, dds_third_check, dds_third_restore_one, dds_third_restore_two, dds_third_mend};
 ghost use Rattle.c_third.specs.Answered.{Answered};
 
+use answer::refusals::ThirdRefusal;
 use answer::{Outcome, Refused};
 
 // A call that may write the rows. With an answer slice of another length it is not made, and 1 is returned.
-fn answered<F: FnOnce(&mut [u8]) -> Result<(), Refused>>(
+fn answered<F: FnOnce(&mut [u8]) -> Result<(), Refused<ThirdRefusal>>>(
     rows: &mut [u8],
     answer: &mut [u8],
     call: F,

@@ -8,18 +8,19 @@ use lib.Dec.{eqb, leb, ltb}
 use borrow.Author.Tests.{not-false, leb-true, le-leb, eqb-true, eqb-false, eq-eqb, ne_eqb, lt-ltb, le-ltb}
 use Rattle.numbers.proofs.Tests.{both, and, passed}
 use Rattle.std.specs.Prelude.{Result, Ok, Err, IsErr}
-use Rattle.answer.specs.declared.Refusal.{Refusal}
-use Rattle.answer.specs.Refusals.{refusal_number, number_of}
-use Rattle.answer.proofs.RefusalLaws.{not_zero as number_not_zero}
+use Rattle.answer.specs.declared.refusals.ThirdRefusal.{ThirdRefusal}
+use Rattle.answer.specs.Numbers.{third_number}
+use Rattle.answer.specs.Results.{number_of}
+use Rattle.answer.specs.NotZero.{third_not_zero as number_not_zero}
 use Rattle.column.specs.Column.{row_count, last_row}
 use Rattle.third.specs.Answer.{ThirdAnswer}
 use Rattle.third.specs.Answer.{length_kept, row_kept, length_refusal, one_refusal, two_refusal, answer_of}
 
 -- A refusal that is found has a number that is not 0.
-not_zero : (r : Refusal) → refusal_number r ≡ 0 → ⊥
-not_zero r e = eqb-false (refusal_number r) 0 (number_not_zero r) e
+not_zero : (r : ThirdRefusal) → third_number r ≡ 0 → ⊥
+not_zero r e = eqb-false (third_number r) 0 (number_not_zero r) e
 
-pub is_refusal : {A : Type 0} (r : Result A Refusal) → IsErr r → number_of r ≡ 0 → ⊥
+pub is_refusal : {A : Type 0} (r : Result A ThirdRefusal) → IsErr r → number_of third_number r ≡ 0 → ⊥
 is_refusal (Ok x) h e = absurd (true≢false (sym h))
 is_refusal (Err r) h e = not_zero r e
 

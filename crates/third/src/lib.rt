@@ -8,7 +8,8 @@ mod refusals;
 
 ghost use Rattle.third.specs.Answer.{Makes, Checks, RestoresOne, RestoresTwo, Mends, done_answer, checked_answer};
 
-use answer::{Refusal, Refused};
+use answer::Refused;
+use answer::refusals::ThirdRefusal;
 use column::LAST_ROW;
 use field::tables::Logarithms;
 
@@ -16,7 +17,7 @@ use field::tables::Logarithms;
 pub const FIRST_CHECK_ROW: usize = 44;
 
 // The two check rows made from the rows of data, whatever they held.
-pub fn make(n: u32, rows: &mut [u8]) -> Result<(), Refused>
+pub fn make(n: u32, rows: &mut [u8]) -> Result<(), Refused<ThirdRefusal>>
     ensures { Makes n rows.old (done_answer result) rows.new }
 {
     refusals::length_refusal(rows.len(), n)?;
@@ -25,7 +26,7 @@ pub fn make(n: u32, rows: &mut [u8]) -> Result<(), Refused>
 }
 
 // Whether every column keeps both rules.
-pub fn check(n: u32, rows: &[u8]) -> Result<bool, Refused>
+pub fn check(n: u32, rows: &[u8]) -> Result<bool, Refused<ThirdRefusal>>
     ensures { Checks n rows.now (checked_answer result) }
 {
     refusals::length_refusal(rows.len(), n)?;
@@ -33,7 +34,7 @@ pub fn check(n: u32, rows: &[u8]) -> Result<bool, Refused>
 }
 
 // One row restored from the others, whatever it held.
-pub fn restore_one(n: u32, row: u32, rows: &mut [u8]) -> Result<(), Refused>
+pub fn restore_one(n: u32, row: u32, rows: &mut [u8]) -> Result<(), Refused<ThirdRefusal>>
     ensures { RestoresOne n row rows.old (done_answer result) rows.new }
 {
     refusals::one_refusal(rows.len(), n, row)?;
@@ -42,7 +43,12 @@ pub fn restore_one(n: u32, row: u32, rows: &mut [u8]) -> Result<(), Refused>
 }
 
 // Two rows restored from the others, whatever they held.
-pub fn restore_two(n: u32, first: u32, second: u32, rows: &mut [u8]) -> Result<(), Refused>
+pub fn restore_two(
+    n: u32,
+    first: u32,
+    second: u32,
+    rows: &mut [u8],
+) -> Result<(), Refused<ThirdRefusal>>
     ensures { RestoresTwo n first second rows.old (done_answer result) rows.new }
 {
     refusals::two_refusal(rows.len(), n, first, second)?;
@@ -51,14 +57,14 @@ pub fn restore_two(n: u32, first: u32, second: u32, rows: &mut [u8]) -> Result<(
 }
 
 // With no row named, one wrong byte of each column mended. Every column is judged before a byte is written.
-pub fn mend(n: u32, rows: &mut [u8]) -> Result<(), Refused>
+pub fn mend(n: u32, rows: &mut [u8]) -> Result<(), Refused<ThirdRefusal>>
     ensures { Mends n rows.old (done_answer result) rows.new }
 {
     refusals::length_refusal(rows.len(), n)?;
     let logarithms = Logarithms::new();
     if let Some(c) = restoring::first_hopeless(rows, &logarithms, n as usize) {
         return Err(Refused {
-            refusal: Refusal::Hopeless,
+            refusal: ThirdRefusal::Hopeless,
             place: c as u32,
         });
     }
