@@ -2,24 +2,20 @@
 ghost use Rattle.std.specs.Prelude.{◌≡◌, ◌<◌, length};
 ghost use Rattle.track.specs.Sizes.{packs_length};
 ghost use Rattle.track.specs.Blocks.{pack_in};
-ghost use Rattle.track.specs.Answer.{lengths_kept, make_call, read_call};
+ghost use Rattle.track.specs.Answer.{lengths_kept, make_call, read_call, answer_of};
 
-use crate::{Track, TrackAnswer};
+use crate::Track;
+use answer::{Refusal, Refused};
 
 // Whether the slices are of their lengths.
+#[tactic(auto, unfolding(crate::specs::Answer::lengths_kept))]
 fn lengths_kept(track: usize, packs: usize, items: usize, numbers: usize) -> bool
     ensures { result ≡ lengths_kept track packs items numbers }
 {
-    if track != Track::LENGTH {
-        return false;
-    }
-    if packs != Track::PACKS_LENGTH {
-        return false;
-    }
-    if items != Track::ITEMS_LENGTH {
-        return false;
-    }
-    numbers == Track::NUMBERS_LENGTH
+    track == Track::LENGTH
+        && packs == Track::PACKS_LENGTH
+        && items == Track::ITEMS_LENGTH
+        && numbers == Track::NUMBERS_LENGTH
 }
 
 // A block's Pack ID among those lent.
@@ -27,11 +23,11 @@ pub(crate) fn pack_in(packs: &[u8], block: u8) -> u8
     requires { (length packs.now ≡ packs_length) × (block < 16) }
     ensures { result ≡ pack_in packs.now block }
 {
-    if !header::is_even(block) {
-        return 0;
+    if header::is_even(block) {
+        packs[usize::from(block / 2)]
+    } else {
+        0
     }
-    let k = (block >> 1) as usize;
-    packs[k]
 }
 
 // What making answers. Nothing is written.
@@ -41,32 +37,24 @@ pub(crate) fn judge_making(
     items: usize,
     track: usize,
     numbers: usize,
-) -> TrackAnswer
-    ensures { result ≡ make_call area packs.now items track numbers }
+) -> Result<(), Refused>
+    ensures { answer_of result ≡ make_call area packs.now items track numbers }
 {
     if !lengths_kept(track, packs.len(), items, numbers) {
-        return TrackAnswer::Refused {
-            refusal: 30,
-            place: 0,
-        };
+        return Err(Refusal::Length.into());
     }
     if !header::area_kept(area) {
-        return TrackAnswer::Refused {
-            refusal: 32,
-            place: 0,
-        };
+        return Err(Refusal::Sw1.into());
     }
-    let mut block: u8 = 0;
-    while block < Track::BLOCKS {
+    for block in 0..Track::BLOCKS {
         if !header::pack_kept(block, pack_in(packs, block)) {
-            return TrackAnswer::Refused {
-                refusal: 33,
-                place: block as u32,
-            };
+            return Err(Refused {
+                refusal: Refusal::Sw2,
+                place: u32::from(block),
+            });
         }
-        block += 1;
     }
-    TrackAnswer::Accepted
+    Ok(())
 }
 
 // What reading answers. Nothing is written.
@@ -76,27 +64,18 @@ pub(crate) fn judge_reading(
     packs: usize,
     items: usize,
     numbers: usize,
-) -> TrackAnswer
-    ensures { result ≡ read_call area track.now packs items numbers }
+) -> Result<(), Refused>
+    ensures { answer_of result ≡ read_call area track.now packs items numbers }
 {
     if !lengths_kept(track.len(), packs, items, numbers) {
-        return TrackAnswer::Refused {
-            refusal: 30,
-            place: 0,
-        };
+        return Err(Refusal::Length.into());
     }
-    let mut block: u8 = 0;
-    while block < Track::BLOCKS {
-        let from = Track::BLOCK_LENGTH * (block as usize);
-        let to = from + Track::BLOCK_LENGTH;
-        let fault = block::block_fault(area, block, &track[from..to]);
-        if fault != 0 {
-            return TrackAnswer::Refused {
-                refusal: fault,
-                place: block as u32,
-            };
-        }
-        block += 1;
+    let (blocks, _) = track.as_chunks();
+    for (number, block) in blocks.iter().enumerate() {
+        block::judge_block(area, number as u8, block).map_err(|refusal| Refused {
+            refusal,
+            place: number as u32,
+        })?;
     }
-    TrackAnswer::Accepted
+    Ok(())
 }

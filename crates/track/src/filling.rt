@@ -5,6 +5,7 @@ ghost use Rattle.track.specs.Blocks.{track_of, packs_of, items_of};
 ghost use Rattle.track.specs.Bounds.{PacksKept};
 
 use crate::{Track, blocks};
+use header::Header;
 
 // All blocks of a track.
 pub(crate) fn put_track(track: &mut [u8], area: u32, packs: &[u8], items: &[u8])
@@ -12,20 +13,16 @@ pub(crate) fn put_track(track: &mut [u8], area: u32, packs: &[u8], items: &[u8])
     requires area_bound { (area < 16) × PacksKept packs.now }
     ensures { track.new ≡ track_of area packs.now items.now }
 {
-    let mut block: u8 = 0;
-    while block < Track::BLOCKS {
+    let (items, _) = items.as_chunks();
+    for (number, places) in items.iter().enumerate() {
+        let block = number as u8;
         let pack = blocks::pack_in(packs, block);
-        let from = Track::DATA_PART_LENGTH * (block as usize);
-        let to = from + Track::DATA_PART_LENGTH;
+        let from = Track::BLOCK_LENGTH * number;
         block::put_block(
-            track,
-            Track::BLOCK_LENGTH * (block as usize),
-            area,
-            pack,
-            block,
-            &items[from..to],
+            &mut track[from..from + Track::BLOCK_LENGTH],
+            Header { area, pack, block },
+            places,
         );
-        block += 1;
     }
 }
 
@@ -34,11 +31,8 @@ pub(crate) fn put_packs(packs: &mut [u8], track: &[u8])
     requires { (length packs.old ≡ packs_length) × (length track.now ≡ track_length) }
     ensures { packs.new ≡ packs_of track.now }
 {
-    let mut k: usize = 0;
-    while k < Track::PACKS_LENGTH {
-        let sw2 = track[Track::BLOCK_LENGTH * (2 * k) + 1];
-        packs[k] = header::pack_of(sw2);
-        k += 1;
+    for (k, pack) in packs.iter_mut().enumerate() {
+        *pack = header::pack_of(track[Track::BLOCK_LENGTH * (2 * k) + 1]);
     }
 }
 
@@ -47,15 +41,9 @@ pub(crate) fn put_items(items: &mut [u8], track: &[u8])
     requires { (length items.old ≡ items_length) × (length track.now ≡ track_length) }
     ensures { items.new ≡ items_of track.now }
 {
-    let mut block: u8 = 0;
-    while block < Track::BLOCKS {
-        let from = Track::BLOCK_LENGTH * (block as usize) + 3;
-        let to = from + Track::DATA_PART_LENGTH;
-        numbers::bytes::put_bytes(
-            items,
-            Track::DATA_PART_LENGTH * (block as usize),
-            &track[from..to],
-        );
-        block += 1;
+    let (blocks, _) = track.as_chunks::<{ Track::BLOCK_LENGTH }>();
+    for (block, bytes) in blocks.iter().enumerate() {
+        let from = Track::DATA_PART_LENGTH * block;
+        items[from..from + Track::DATA_PART_LENGTH].copy_from_slice(&bytes[3..]);
     }
 }

@@ -5,18 +5,13 @@
 mod blocks;
 mod filling;
 
-ghost use Rattle.track.specs.Answer.{Makes, Reads};
+ghost use Rattle.track.specs.Answer.{Makes, Reads, answer_of};
+
+use answer::Refused;
 
 // A track: its blocks, and the lengths of what is lent for it.
-#[derive(Clone, Copy)]
+#[derive(Clone, Copy, Debug, PartialEq, Eq)]
 pub struct Track {}
-
-// What making and reading answer.
-#[derive(Clone, Copy)]
-pub enum TrackAnswer {
-    Accepted,
-    Refused { refusal: u32, place: u32 },
-}
 
 impl Track {
     pub const BLOCKS: u8 = 16;
@@ -41,21 +36,13 @@ impl Track {
         items: &[u8],
         track: &mut [u8],
         numbers: &mut [u8],
-    ) -> TrackAnswer
-        ensures { Makes area frame packs.now items.now track.old numbers.old result track.new numbers.new }
+    ) -> Result<(), Refused>
+        ensures { Makes area frame packs.now items.now track.old numbers.old (answer_of result) track.new numbers.new }
     {
-        let answer = blocks::judge_making(area, packs, items.len(), track.len(), numbers.len());
-        match answer {
-            TrackAnswer::Accepted => {
-                filling::put_track(track, area, packs, items);
-                items::put_numbers(numbers, area, frame);
-                answer
-            }
-            TrackAnswer::Refused {
-                refusal: _,
-                place: _,
-            } => answer,
-        }
+        blocks::judge_making(area, packs, items.len(), track.len(), numbers.len())?;
+        filling::put_track(track, area, packs, items);
+        items::put_numbers(numbers, area, frame);
+        Ok(())
     }
 
     // A track's Pack IDs and what stands at its places, and the Item number of each place.
@@ -66,21 +53,13 @@ impl Track {
         packs: &mut [u8],
         items: &mut [u8],
         numbers: &mut [u8],
-    ) -> TrackAnswer
-        ensures { Reads area frame track.now packs.old items.old numbers.old result packs.new items.new numbers.new }
+    ) -> Result<(), Refused>
+        ensures { Reads area frame track.now packs.old items.old numbers.old (answer_of result) packs.new items.new numbers.new }
     {
-        let answer = blocks::judge_reading(area, track, packs.len(), items.len(), numbers.len());
-        match answer {
-            TrackAnswer::Accepted => {
-                filling::put_packs(packs, track);
-                filling::put_items(items, track);
-                items::put_numbers(numbers, area, frame);
-                answer
-            }
-            TrackAnswer::Refused {
-                refusal: _,
-                place: _,
-            } => answer,
-        }
+        blocks::judge_reading(area, track, packs.len(), items.len(), numbers.len())?;
+        filling::put_packs(packs, track);
+        filling::put_items(items, track);
+        items::put_numbers(numbers, area, frame);
+        Ok(())
     }
 }
