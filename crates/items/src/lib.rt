@@ -24,7 +24,8 @@ static CONTENTS: [[u32; 4]; 6] = [
 // The row of a track's even blocks. Its odd blocks' row is the next.
 #[tactic(auto, unfolding(crate::specs::Items::row_of))]
 fn row_of(area: u32, frame: u32) -> usize
-    ensures { (result ≡ row_of area frame) × (result ≤ 4) }
+    ensures row { result ≡ row_of area frame }
+    ensures has_a_next { result ≤ 4 }
 {
     match header::tape_area(area) {
         header::DATA_AREA => 0,

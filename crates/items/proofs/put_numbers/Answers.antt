@@ -1,13 +1,8 @@
 -- `put_numbers` meets its contract: a place's number a turn. Assumes nothing.
-use mathlib.Core.Path.{◌≡◌, ◌∙◌}
-use mathlib.Core.List.{List, []}
-use Prim.Native.Nat.{ℕ, ◌+◌, ◌*◌, ◌/◌, ◌%◌}
+use Prim.Native.Nat.{ℕ}
 use native.Mathlib.Omega.{arith}
-use lib.ListN.{get_or}
-use Rattle.numbers.specs.Store.{put}
-use Rattle.numbers.specs.Numbers.{bytes_of}
 use Rattle.numbers.proofs.NumberLaws.{length_bytes}
-use Rattle.items.specs.Items.{contents, row_of, item_number, numbers_of}
+use Rattle.items.specs.Items.{contents, item_number, numbers_of}
 use Rattle.items.proofs.Turns.{Wide, filled_turn, filled_done}
 use Rattle.items.proofs.put_numbers.Invariants.{told}
 use Rattle.items.proofs.put_numbers.Goals as goal
@@ -19,7 +14,7 @@ pub loop-place-preserved : goal.loop-place-preserved
 unfolding item_number contents
 loop-place-preserved c =
     let place = c.loop-place.place in
-    let stored = rw c.row_of-row.ensures.0 at c.put_number.ensures in
+    let stored = rw c.row_of-row.ensures.row at c.put_number.ensures in
     filled_turn _ 4 64 _ _ _ place c.loop-place-test.true (wide _ _ place c.loop-place-test.true) c.put_number.auto.bytes stored c.loop-place.invariant
 
 pub returns : goal.returns
