@@ -1,26 +1,16 @@
 // The judgement of a track, block by block from 0, and of what is lent to make one.
-ghost use Rattle.std.specs.Prelude.{◌≡◌, ◌<◌, length};
-ghost use Rattle.track.specs.Sizes.{packs_length};
+ghost use Rattle.std.specs.Prelude.{◌≡◌, ◌<◌};
+ghost use Rattle.items.specs.Items.{numbers_length};
+ghost use Rattle.track.specs.Sizes.{track_length, packs_length, items_length};
 ghost use Rattle.track.specs.Blocks.{pack_in};
-ghost use Rattle.track.specs.Answer.{lengths_kept, make_call, read_call, answer_of};
+ghost use Rattle.track.specs.Answer.{make_call, read_call, answer_of};
 
 use crate::Track;
 use answer::{Refusal, Refused};
 
-// Whether the slices are of their lengths.
-#[tactic(auto, unfolding(crate::specs::Answer::lengths_kept))]
-fn lengths_kept(track: usize, packs: usize, items: usize, numbers: usize) -> bool
-    ensures { result ≡ lengths_kept track packs items numbers }
-{
-    track == Track::LENGTH
-        && packs == Track::PACKS_LENGTH
-        && items == Track::ITEMS_LENGTH
-        && numbers == Track::NUMBERS_LENGTH
-}
-
 // A block's Pack ID among those lent.
-pub(crate) fn pack_in(packs: &[u8], block: u8) -> u8
-    requires { (length packs.now ≡ packs_length) × (block < 16) }
+pub(crate) fn pack_in(packs: &[u8; Track::PACKS_LENGTH], block: u8) -> u8
+    requires { block < 16 }
     ensures { result ≡ pack_in packs.now block }
 {
     if header::is_even(block) {
@@ -30,19 +20,10 @@ pub(crate) fn pack_in(packs: &[u8], block: u8) -> u8
     }
 }
 
-// What making answers. Nothing is written.
-pub(crate) fn judge_making(
-    area: u32,
-    packs: &[u8],
-    items: usize,
-    track: usize,
-    numbers: usize,
-) -> Result<(), Refused>
-    ensures { answer_of result ≡ make_call area packs.now items track numbers }
+// What making answers where the slices are of their lengths.
+pub(crate) fn judge_making(area: u32, packs: &[u8; Track::PACKS_LENGTH]) -> Result<(), Refused>
+    ensures { answer_of result ≡ make_call area packs.now items_length track_length numbers_length }
 {
-    if !lengths_kept(track, packs.len(), items, numbers) {
-        return Err(Refusal::Length.into());
-    }
     if !header::area_kept(area) {
         return Err(Refusal::Sw1.into());
     }
@@ -57,25 +38,19 @@ pub(crate) fn judge_making(
     Ok(())
 }
 
-// What reading answers. Nothing is written.
-pub(crate) fn judge_reading(
-    area: u32,
-    track: &[u8],
-    packs: usize,
-    items: usize,
-    numbers: usize,
-) -> Result<(), Refused>
-    ensures { answer_of result ≡ read_call area track.now packs items numbers }
+// What reading answers where the slices are of their lengths.
+pub(crate) fn judge_reading(area: u32, track: &[u8; Track::LENGTH]) -> Result<(), Refused>
+    ensures { answer_of result ≡ read_call area track.now packs_length items_length numbers_length }
 {
-    if !lengths_kept(track.len(), packs, items, numbers) {
-        return Err(Refusal::Length.into());
-    }
     let (blocks, _) = track.as_chunks();
-    for (number, block) in blocks.iter().enumerate() {
-        block::judge_block(area, number as u8, block).map_err(|refusal| Refused {
-            refusal,
-            place: number as u32,
-        })?;
+    for number in 0..Track::BLOCKS {
+        let block = &blocks[usize::from(number)];
+        if let Err(refusal) = block::judge_block(area, number, block) {
+            return Err(Refused {
+                refusal,
+                place: u32::from(number),
+            });
+        }
     }
     Ok(())
 }

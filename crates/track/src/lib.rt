@@ -7,7 +7,7 @@ mod filling;
 
 ghost use Rattle.track.specs.Answer.{Makes, Reads, answer_of};
 
-use answer::Refused;
+use answer::{Refusal, Refused};
 
 // A track: its blocks, and the lengths of what is lent for it.
 #[derive(Clone, Copy, Debug, PartialEq, Eq)]
@@ -39,7 +39,11 @@ impl Track {
     ) -> Result<(), Refused>
         ensures { Makes area frame packs.now items.now track.old numbers.old (answer_of result) track.new numbers.new }
     {
-        blocks::judge_making(area, packs, items.len(), track.len(), numbers.len())?;
+        let packs = packs.as_array::<{ Self::PACKS_LENGTH }>().ok_or(Refusal::Length)?;
+        let items = items.as_array::<{ Self::ITEMS_LENGTH }>().ok_or(Refusal::Length)?;
+        let track = track.as_mut_array::<{ Self::LENGTH }>().ok_or(Refusal::Length)?;
+        let numbers = numbers.as_mut_array::<{ Self::NUMBERS_LENGTH }>().ok_or(Refusal::Length)?;
+        blocks::judge_making(area, packs)?;
         filling::put_track(track, area, packs, items);
         items::put_numbers(numbers, area, frame);
         Ok(())
@@ -56,7 +60,11 @@ impl Track {
     ) -> Result<(), Refused>
         ensures { Reads area frame track.now packs.old items.old numbers.old (answer_of result) packs.new items.new numbers.new }
     {
-        blocks::judge_reading(area, track, packs.len(), items.len(), numbers.len())?;
+        let track = track.as_array::<{ Self::LENGTH }>().ok_or(Refusal::Length)?;
+        let packs = packs.as_mut_array::<{ Self::PACKS_LENGTH }>().ok_or(Refusal::Length)?;
+        let items = items.as_mut_array::<{ Self::ITEMS_LENGTH }>().ok_or(Refusal::Length)?;
+        let numbers = numbers.as_mut_array::<{ Self::NUMBERS_LENGTH }>().ok_or(Refusal::Length)?;
+        blocks::judge_reading(area, track)?;
         filling::put_packs(packs, track);
         filling::put_items(items, track);
         items::put_numbers(numbers, area, frame);
