@@ -2,33 +2,17 @@
 -- Assumes nothing.
 use mathlib.Core.Path.{◌≡◌, refl, sym, ap, ◌∙◌}
 use mathlib.Core.List.{List, [], ◌∷◌, ◌++◌, append_assoc}
-use Prim.Native.Nat.{ℕ, zero, suc, ◌+◌, ◌*◌, ◌-◌, ◌≤◌, ◌<◌, zero-le}
-use native.Mathlib.Nat.{not-suc-le-zero, le_of_suc-le-suc, mul-le-mul_left, mul-zero, mul-suc, sub-zero, add-zero, zero-add, suc-add, add-suc}
+use Prim.Native.Nat.{ℕ, zero, suc, ◌+◌, ◌*◌, ◌-◌, ◌≤◌, ◌<◌}
+use native.Mathlib.Nat.{not-suc-le-zero, le_of_suc-le-suc, mul-le-mul_left, mul-zero, mul-suc, add-zero, zero-add, suc-add, add-suc}
 use native.Mathlib.Numerals.{add-one}
 use native.Mathlib.Omega.{arith}
-use lib.ListN.{length, get_or, take, drop, length-append, length-drop}
-use lib.Seq.{length-take-le, take_at, take-add, drop-drop, take-nil, drop-append-add, take_all}
+use lib.ListN.{length, get_or, take, drop, length-append}
+use lib.Seq.{take_at, take-add, drop-drop, drop-append-add, take_all}
 use Rattle.std.specs.Simd.{first_chunks}
 use Rattle.numbers.specs.Store.{put}
 use borrow.Rule.Slice.PartMut.{put_mid}
 use Rattle.numbers.proofs.Stores.{length_put, put_none, put_split, put_put, put_whole}
 use Rattle.items.specs.Turns.{chunk, in_turn}
-
--- What follows the first n of n + m.
-pub drop_take : (n m : ℕ) (l : List ℕ) → drop n (take (n + m) l) ≡ take m (drop n l)
-drop_take zero m l = rw (zero-add m)
-drop_take (suc n) m [] = rw (suc-add n m) (sym (take-nil m))
-drop_take (suc n) m (x ∷ l) = rw (suc-add n m) (drop_take n m l)
-
--- What lies between two indices that are so far apart, and how long it is.
-pub between_ends : (from width : ℕ) (l : List ℕ) → take (from + width - from) (drop from l) ≡ take width (drop from l)
-between_ends from width l =
-    let apart : from + width - from ≡ width = omega arith in
-    ap (λ (n : ℕ). take n (drop from l)) apart
-
-pub length_between : (from width : ℕ) (l : List ℕ) → from + width ≤ length l → length (take (from + width - from) (drop from l)) ≡ width
-length_between from width l h =
-    ap length (between_ends from width l) ∙ length-take-le width (drop from l) (omega (arith, length-drop from l))
 
 -- A chunk, read from the chunks that the slice is taken as.
 pub chunk_read : (width n : ℕ) (s : List ℕ) (k : ℕ) → k < n → get_or (first_chunks width n s) k [] ≡ chunk width s k
@@ -91,9 +75,6 @@ pub record Filled (f : ℕ → List ℕ) (width count : ℕ) (old now : List ℕ
   pub same : put now (width * k) (in_turn f k (count - k)) ≡ put old 0 (in_turn f 0 count)
 
 module _ (f : ℕ → List ℕ) (width count : ℕ) where
-  pub filled_none : (old : List ℕ) → Filled f width count old old 0
-  filled_none old = record { within = zero-le; long = refl; same = rw (mul-zero width, sub-zero count) }
-
   pub filled_turn : (old now after : List ℕ) (k : ℕ) → k < count → length (f k) ≡ width → length after ≡ length now
       → after ≡ put now (width * k) (f k) → Filled f width count old now k → Filled f width count old after (k + 1)
   unfolding in_turn

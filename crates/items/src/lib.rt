@@ -1,8 +1,8 @@
 // The Item number of each place of a track, by Table 3: source document 003, 9.4.9.4.
 #![tactic(auto)]
 
-ghost use Rattle.std.specs.Prelude.{◌≡◌, ◌≤◌, length};
-ghost use Rattle.items.specs.Items.{numbers_length, row_of, numbers_of};
+ghost use Rattle.std.specs.Prelude.{◌≡◌, ◌≤◌};
+ghost use Rattle.items.specs.Items.{row_of, numbers_of};
 
 // The frames of the System Log, and the places of a track.
 pub const LOG_FIRST: u32 = 71;
@@ -10,6 +10,9 @@ pub const LOG_FIRST: u32 = 71;
 pub const LOG_LAST: u32 = 95;
 
 pub const PLACES: usize = 64;
+
+// The length of their numbers, four bytes each.
+pub const NUMBERS_LENGTH: usize = 256;
 
 // Table 3's contents, 0 for a close: an even and an odd block of the Data Area, of the System Log, of all other rows.
 static CONTENTS: [[u32; 4]; 6] = [
@@ -35,8 +38,7 @@ fn row_of(area: u32, frame: u32) -> usize
 }
 
 // The number of each place as four bytes.
-pub fn put_numbers(numbers: &mut [u8], area: u32, frame: u32)
-    requires { length numbers.old ≡ numbers_length }
+pub fn put_numbers(numbers: &mut [u8; NUMBERS_LENGTH], area: u32, frame: u32)
     ensures { numbers.new ≡ numbers_of area frame }
 {
     let row = row_of(area, frame);

@@ -7,13 +7,10 @@ use Prim.Native.Nat.{ℕ, zero, suc, ◌+◌, ◌-◌, ◌≤◌, ◌<◌}
 use native.Mathlib.Nat.{add-zero, zero-add, suc-add, add-suc}
 use native.Mathlib.Numerals.{add-one}
 use native.Mathlib.Omega.{arith}
-use borrow.Author.Tests.{eq-eqb, ne_eqb, eqb-true, eqb-false}
+use borrow.Author.Tests.{eq-eqb, eqb-true, eqb-false}
 use lib.Dec.{eqb}
 use lib.ListN.{length}
 use Rattle.answer.specs.Answer.{refusal_told}
-use Rattle.answer.specs.declared.Refusal.{Refusal}
-use Rattle.answer.specs.Refusals.{refusal_number}
-use Rattle.answer.proofs.RefusalLaws.{not_zero}
 use Rattle.numbers.proofs.Tests.{both}
 use Rattle.header.specs.Header.{area_kept, pack_kept}
 use Rattle.header.proofs.TakenApart.{pack_small}
@@ -48,12 +45,8 @@ module _ (fault : ℕ → ℕ) (block refusal : ℕ) (less : block < 16) (is : r
         same = sym (ap (λ (b : Bool). cond b (fault_from fault (block + 1) (16 - (block + 1))) (Refused refusal block)) (eq-eqb refusal 0 h)) ∙ turn;
       }
 
--- A block whose rule is broken, as the refusal that the code gives.
-pub judged_fault : (fault : ℕ → ℕ) (block : ℕ) (refusal : Refusal) → block < 16 → refusal_number refusal ≡ fault block → Judging fault block
-    → Refused (refusal_number refusal) block ≡ fault_from fault 0 16
-judged_fault fault block refusal less is j =
-    sym (ap (λ (b : Bool). cond b (fault_from fault (block + 1) (16 - (block + 1))) (Refused (refusal_number refusal) block)) (not_zero refusal))
-    ∙ turn fault block (refusal_number refusal) less is j
+  pub judged_fault : eqb refusal 0 ≡ false → Refused refusal block ≡ fault_from fault 0 16
+  judged_fault h = sym (ap (λ (b : Bool). cond b (fault_from fault (block + 1) (16 - (block + 1))) (Refused refusal block)) h) ∙ turn
 
 pub judged_all : (fault : ℕ → ℕ) (block : ℕ) → 16 ≤ block → Judging fault block → Accepted ≡ fault_from fault 0 16
 unfolding fault_from

@@ -45,12 +45,10 @@ pub(crate) fn judge_reading(area: u32, track: &[u8; Track::LENGTH]) -> Result<()
     let (blocks, _) = track.as_chunks();
     for number in 0..Track::BLOCKS {
         let block = &blocks[usize::from(number)];
-        if let Err(refusal) = block::judge_block(area, number, block) {
-            return Err(Refused {
-                refusal,
-                place: u32::from(number),
-            });
-        }
+        block::judge_block(area, number, block).map_err(|refusal| Refused {
+            refusal,
+            place: u32::from(number),
+        })?;
     }
     Ok(())
 }

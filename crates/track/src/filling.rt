@@ -30,7 +30,7 @@ pub(crate) fn put_track(
     }
 }
 
-// The Pack IDs of a track's even blocks.
+// The Pack IDs of a track's even blocks. Written by index: proofs do not know what is written through `iter_mut().enumerate()`.
 pub(crate) fn put_packs(packs: &mut [u8; Track::PACKS_LENGTH], track: &[u8; Track::LENGTH])
     ensures { packs.new ≡ packs_of track.now }
 {

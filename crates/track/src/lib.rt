@@ -16,9 +16,9 @@ pub struct Track {}
 impl Track {
     pub const BLOCKS: u8 = 16;
 
-    pub const DATA_PART_LENGTH: usize = 32;
+    pub const DATA_PART_LENGTH: usize = block::DATA_PART_LENGTH;
 
-    pub const BLOCK_LENGTH: usize = 35;
+    pub const BLOCK_LENGTH: usize = block::LENGTH;
 
     pub const LENGTH: usize = 560;
 
@@ -26,7 +26,7 @@ impl Track {
 
     pub const ITEMS_LENGTH: usize = 512;
 
-    pub const NUMBERS_LENGTH: usize = 256;
+    pub const NUMBERS_LENGTH: usize = items::NUMBERS_LENGTH;
 
     // A track from its Area ID, Pack IDs and items, and the Item number of each place.
     pub fn make(
@@ -39,10 +39,18 @@ impl Track {
     ) -> Result<(), Refused>
         ensures { Makes area frame packs.now items.now track.old numbers.old (answer_of result) track.new numbers.new }
     {
-        let packs = packs.as_array::<{ Self::PACKS_LENGTH }>().ok_or(Refusal::Length)?;
-        let items = items.as_array::<{ Self::ITEMS_LENGTH }>().ok_or(Refusal::Length)?;
-        let track = track.as_mut_array::<{ Self::LENGTH }>().ok_or(Refusal::Length)?;
-        let numbers = numbers.as_mut_array::<{ Self::NUMBERS_LENGTH }>().ok_or(Refusal::Length)?;
+        let packs = packs
+            .as_array::<{ Self::PACKS_LENGTH }>()
+            .ok_or(Refusal::Length)?;
+        let items = items
+            .as_array::<{ Self::ITEMS_LENGTH }>()
+            .ok_or(Refusal::Length)?;
+        let track = track
+            .as_mut_array::<{ Self::LENGTH }>()
+            .ok_or(Refusal::Length)?;
+        let numbers = numbers
+            .as_mut_array::<{ Self::NUMBERS_LENGTH }>()
+            .ok_or(Refusal::Length)?;
         blocks::judge_making(area, packs)?;
         filling::put_track(track, area, packs, items);
         items::put_numbers(numbers, area, frame);
@@ -61,9 +69,15 @@ impl Track {
         ensures { Reads area frame track.now packs.old items.old numbers.old (answer_of result) packs.new items.new numbers.new }
     {
         let track = track.as_array::<{ Self::LENGTH }>().ok_or(Refusal::Length)?;
-        let packs = packs.as_mut_array::<{ Self::PACKS_LENGTH }>().ok_or(Refusal::Length)?;
-        let items = items.as_mut_array::<{ Self::ITEMS_LENGTH }>().ok_or(Refusal::Length)?;
-        let numbers = numbers.as_mut_array::<{ Self::NUMBERS_LENGTH }>().ok_or(Refusal::Length)?;
+        let packs = packs
+            .as_mut_array::<{ Self::PACKS_LENGTH }>()
+            .ok_or(Refusal::Length)?;
+        let items = items
+            .as_mut_array::<{ Self::ITEMS_LENGTH }>()
+            .ok_or(Refusal::Length)?;
+        let numbers = numbers
+            .as_mut_array::<{ Self::NUMBERS_LENGTH }>()
+            .ok_or(Refusal::Length)?;
         blocks::judge_reading(area, track)?;
         filling::put_packs(packs, track);
         filling::put_items(items, track);

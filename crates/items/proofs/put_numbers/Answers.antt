@@ -1,6 +1,7 @@
 -- `put_numbers` meets its contract: a place's number a turn. Assumes nothing.
 use Prim.Native.Nat.{ℕ}
 use native.Mathlib.Omega.{arith}
+use borrow.Author.Rules.{rules}
 use Rattle.numbers.proofs.NumberLaws.{length_bytes}
 use Rattle.items.specs.Items.{contents, item_number, numbers_of}
 use Rattle.items.proofs.Turns.{Wide, filled_turn, filled_done}
@@ -19,4 +20,4 @@ loop-place-preserved c =
 
 pub returns : goal.returns
 unfolding numbers_of
-returns c = filled_done _ 4 64 (wide _ _) _ _ c.loop-place.place (omega arith) c.requires c.loop-place.invariant
+returns c = filled_done _ 4 64 (wide _ _) _ _ c.loop-place.place (omega arith) (search rules) c.loop-place.invariant

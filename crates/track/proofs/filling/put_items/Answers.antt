@@ -1,13 +1,7 @@
 -- `put_items` meets its contract: a block's four places a turn. Assumes nothing.
-use mathlib.Core.Path.{◌≡◌, refl, sym, ap, ◌∙◌}
-use mathlib.Core.List.{List, []}
-use Prim.Native.Nat.{ℕ, ◌+◌, ◌*◌, ◌-◌, ◌/◌, ◌<◌}
-use native.Mathlib.Omega.{arith}
+use mathlib.Core.Path.{refl, ◌∙◌}
+use Prim.Native.Nat.{◌<◌}
 use borrow.Author.Rules.{rules}
-use borrow.Rule.Slice.PartMut.{put_mid}
-use lib.ListN.{length, get_or, take, drop}
-use Rattle.std.specs.Simd.{first_chunks}
-use Rattle.numbers.specs.Store.{put}
 use Rattle.items.proofs.Turns.{filled_part, filled_done}
 use Rattle.track.specs.Blocks.{items_of}
 use Rattle.track.proofs.BlockLaws.{length_data_part_at, data_part_read}

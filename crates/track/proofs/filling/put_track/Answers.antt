@@ -1,8 +1,6 @@
 -- `put_track` meets its contract: a block a turn. Assumes nothing.
-use mathlib.Core.Path.{◌≡◌, refl, ap, ◌∙◌}
-use mathlib.Core.List.{List}
-use Prim.Native.Nat.{ℕ, ◌*◌, ◌<◌}
-use native.Mathlib.Omega.{arith}
+use mathlib.Core.Path.{ap, ◌∙◌}
+use Prim.Native.Nat.{ℕ, ◌*◌}
 use borrow.Author.Rules.{rules}
 use Rattle.items.proofs.Turns.{filled_part, filled_done}
 use Rattle.track.specs.Blocks.{track_of}
