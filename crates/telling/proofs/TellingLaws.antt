@@ -1,5 +1,6 @@
 -- Laws of what is told: a step under another account of it, which step each answer is, and the lines of the rows that a read
 -- leaves. Assumes nothing.
+use Rattle.std.specs.Prelude.{Option, Some}
 use Prim.Native.Nat.{ℕ, ◌*◌, ◌≤◌}
 use mathlib.Core.Path.{◌≡◌, refl, sym, ap, ◌∙◌, subst}
 use mathlib.Core.Bool.{Bool, true, false}
@@ -17,21 +18,18 @@ use Rattle.reader.specs.Answer.{reader_start_call, read_call, group_rows, rows_l
 use Rattle.reader.proofs.Accepted.{accepted}
 use Rattle.sections.specs.declared.Pair.{Pair}
 use Rattle.words.specs.Added.{Added}
-use Rattle.words.proofs.AddedLaws.{added_as}
 use Rattle.lines.specs.Text.{row_lines, group_lines, repeat_line, refusal_line, end_line}
 use Rattle.lines.proofs.RowLaws.{rows_first}
-use Rattle.telling.specs.declared.Listed.TheVariants.{On}
-use Rattle.telling.specs.declared.Said.{Said}
 use Rattle.telling.specs.Telling.{Step, last, bad_step, step_of_start, start_step, step_of_read, most_entries, row_numbers, read_step, group_step, end_step, longest_text, Tells}
 
 -- A text that was added, and how the run goes on, are a step told; by whatever other account that step is the same.
-pub tells : {most : ℕ} {old text : List ℕ} {step other : Step} {said : Said}
-    → other ≡ step → most ≤ longest_text → Added most old 0 step.text text said.length → said.then ≡ step.then → Tells other old text said
-tells {most} {old} {text} {step} {other} {said} e h a g =
-    subst (λ (s : Step). Tells s old text said) (sym e) (record { added = added_as refl h a; goes = g })
+pub tells : {most : ℕ} {old new : List ℕ} {step other : Step} {then : Option Reader}
+    → other ≡ step → most ≤ longest_text → Added most old step.text new → then ≡ step.then → Tells other old new then
+tells {most} {old} {new} {step} {other} {then} e h a g =
+    subst (λ (s : Step). Tells s old new then) (sym e) (record { added = (a.0, omega (arith, a.1, h)); goes = g })
 
-pub tells_as : {old text : List ℕ} {step other : Step} {said : Said} → other ≡ step → Tells step old text said → Tells other old text said
-tells_as {old} {text} {step} {other} {said} e t = subst (λ (s : Step). Tells s old text said) (sym e) t
+pub tells_as : {old new : List ℕ} {step other : Step} {then : Option Reader} → other ≡ step → Tells step old new then → Tells other old new then
+tells_as {old} {new} {step} {other} {then} e t = subst (λ (s : Step). Tells s old new then) (sym e) t
 
 -- A start, by its own answer.
 pub start_step_lem : (size : ℕ) (pair first : Pair) (a b : ReaderStart) → pair ≡ first → a ≡ reader_start_call size pair.number → a ≡ b → start_step size first ≡ step_of_start b
@@ -59,14 +57,14 @@ module _ (s : Reader) (group : List ℕ) (number n : ℕ) (old rows : List ℕ) 
   few_entries t e = let p = accepted s t group number n row_numbers (answered (answer.Accepted t) e) in omega (arith, p.ready.rows)
 
   pub read_on : (t : Reader) → a ≡ answer.Accepted t
-      → read_step s group number n ≡ record { text = group_lines number n rows; then = On t }
+      → read_step s group number n ≡ record { text = group_lines number n rows; then = Some t }
   unfolding read_step
   read_on t e =
       let left : rows ≡ put old 0 (group_rows s group n) = reads.rows_left ∙ ap (λ (b : ReadAnswer). rows_left b (group_rows s group n) old) e in
       let own : group_lines number n rows ≡ group_lines number n (group_rows s group n) = ap (λ (r : List ℕ). group_lines number n r) left ∙ lines_left s group number n old (omega (arith, room, few_entries t e)) in
-      ap (λ (b : ReadAnswer). step_of_read b number n (group_rows s group n)) (answered (answer.Accepted t) e) ∙ ap (λ (l : List ℕ). record { text = l; then = On t }) (sym own)
+      ap (λ (b : ReadAnswer). step_of_read b number n (group_rows s group n)) (answered (answer.Accepted t) e) ∙ ap (λ (l : List ℕ). record { text = l; then = Some t }) (sym own)
 
-  pub read_again : (t : Reader) → a ≡ answer.Repeated t → read_step s group number n ≡ record { text = repeat_line number; then = On t }
+  pub read_again : (t : Reader) → a ≡ answer.Repeated t → read_step s group number n ≡ record { text = repeat_line number; then = Some t }
   unfolding read_step
   read_again t e = ap (λ (b : ReadAnswer). step_of_read b number n (group_rows s group n)) (answered (answer.Repeated t) e)
 
