@@ -27,7 +27,7 @@ fn add_row(text: &mut Text, kind: u32, offset: u32, count: u32)
     requires { length text.old + 32 ≤ text_length }
     ensures { Added 32 text.old (row_line kind offset count) text.new }
 {
-    text.add_kind(kind);
+    text.add_kind(kind as u64);
     text.add_field(offset);
     text.add_field(count);
     text.add_byte(b'\n');

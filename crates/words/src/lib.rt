@@ -106,8 +106,8 @@ impl Text {
         self.add_field(n);
     }
 
-    // The name of a row's kind.
-    pub fn add_kind(&mut self, kind: u32)
+    // The name of a kind; of a number that is no kind's, nothing.
+    pub fn add_kind(&mut self, kind: u64)
         requires { length self.old + 9 ≤ text_length }
         ensures { Added 9 self.old (kind_name kind) self.new }
     {
@@ -115,9 +115,9 @@ impl Text {
     }
 }
 
-// The name of a row's kind; of a number that is none's, no bytes.
+// The name of a kind; of a number that is no kind's, no bytes.
 #[tactic(auto, unfolding(crate::specs::Words::kind_name))]
-fn kind_name(kind: u32) -> &'static [u8]
+fn kind_name(kind: u64) -> &'static [u8]
     ensures name { result.now ≡ kind_name kind }
     ensures few { length result.now ≤ 9 }
 {
