@@ -1,10 +1,10 @@
--- Laws of what is told: a step under another account of it, which step each answer is, and the lines of the rows that a read
+-- Laws of what is told: a step under another account of it, which step each answer of a read is, and the lines of the rows that it
 -- leaves. Assumes nothing.
 use Rattle.std.specs.Prelude.{Option, Some}
 use Prim.Native.Nat.{ℕ, ◌*◌, ◌≤◌}
 use mathlib.Core.Path.{◌≡◌, refl, sym, ap, ◌∙◌, subst}
 use mathlib.Core.Bool.{Bool, true, false}
-use mathlib.Core.List.{List}
+use mathlib.Core.List.{List, [], ◌++◌, append-nil}
 use native.Mathlib.Omega.{arith}
 use lib.ListN.{length, take}
 use Rattle.numbers.specs.Store.{put}
@@ -31,10 +31,9 @@ tells {most} {old} {new} {step} {other} {then} e h a g =
 pub tells_as : {old new : List ℕ} {step other : Step} {then : Option Reader} → other ≡ step → Tells step old new then → Tells other old new then
 tells_as {old} {new} {step} {other} {then} e t = subst (λ (s : Step). Tells s old new then) (sym e) t
 
--- A start, by its own answer.
-pub start_step_lem : (size : ℕ) (pair first : Pair) (a b : ReaderStart) → pair ≡ first → a ≡ reader_start_call size pair.number → a ≡ b → start_step size first ≡ step_of_start b
-unfolding start_step
-start_step_lem size pair first a b p e f = ap (λ (q : Pair). step_of_start (reader_start_call size q.number)) (sym p) ∙ ap step_of_start (sym e ∙ f)
+-- A step of which nothing is told.
+pub tells_nothing : (old : List ℕ) {other : Step} {then : Option Reader} → other ≡ record { text = []; then = then } → Tells other old old then
+tells_nothing old {other} {then} e = tells {most = 0} e (omega arith) (sym (append-nil old), omega arith) refl
 
 -- The lines of a group are made of its own rows, whatever stood in the room for them.
 lines_left : (s : Reader) (group : List ℕ) (number n : ℕ) (old : List ℕ) → 3 * n ≤ length old
@@ -71,22 +70,3 @@ module _ (s : Reader) (group : List ℕ) (number n : ℕ) (old rows : List ℕ) 
   pub read_off : (t : Reader) (refusal place : ℕ) → a ≡ answer.Refused t refusal place → read_step s group number n ≡ last (refusal_line refusal place)
   unfolding read_step
   read_off t refusal place e = ap (λ (b : ReadAnswer). step_of_read b number n (group_rows s group n)) (answered (answer.Refused t refusal place) e)
-
--- A group whose image is cut short, and one that is read.
-pub group_short : (s : Reader) (whole : Bool) (image : List ℕ) (pair : Pair) → whole ≡ false → group_step s whole image pair ≡ bad_step
-unfolding group_step
-group_short s whole image pair e = rw e
-
-pub group_whole : (s : Reader) (whole : Bool) (image : List ℕ) (pair own : Pair) → whole ≡ true → own ≡ pair
-    → group_step s whole image pair ≡ read_step s image own.number own.entries
-unfolding group_step
-group_whole s whole image pair own e p = rw (e, p)
-
--- The end, with a byte more and without.
-pub end_extra : (s : Reader) (extra : Bool) → extra ≡ true → end_step s extra ≡ bad_step
-unfolding end_step
-end_extra s extra e = rw e
-
-pub end_right : (s : Reader) (extra : Bool) → extra ≡ false → end_step s extra ≡ last (end_line s.phase s.sum)
-unfolding end_step
-end_right s extra e = rw e
