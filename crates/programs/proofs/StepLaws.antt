@@ -6,7 +6,7 @@ use Rattle.reader.specs.declared.ReaderStart.{ReaderStart}
 use Rattle.reader.specs.declared.ReaderStart.TheVariants as start
 use Rattle.reader.specs.Answer.{reader_start_call}
 use Rattle.sections.specs.declared.Pair.{Pair}
-use Rattle.telling.specs.Telling.{Step, bad_step, step_of_start, start_step, group_step}
+use Rattle.telling.specs.Telling.{bad_step, step_of_start, start_step, group_step}
 use Rattle.explaining.specs.Steps.{started_step, explain_start, explain_group}
 use Rattle.programs.specs.Steps.{Program, Lister, Explainer, start_of, group_of, refused_start_of, read_of}
 

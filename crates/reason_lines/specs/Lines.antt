@@ -1,7 +1,7 @@
 -- Change request 2026-07, the explaining tool "beside the lister": the two lines that it prints after a refusal, as ASCII codes. The words
 -- are written as they are printed.
 -- Assumes nothing.
-use Rattle.std.specs.Prelude.{ℕ, ◌+◌, List, [], ◌∷◌, ◌++◌, cond, eqb, leb, length}
+use Rattle.std.specs.Prelude.{ℕ, List, [], ◌∷◌, ◌++◌, cond, eqb, leb}
 use Rattle.group.specs.declared.Kind.{Kind}
 use Rattle.group.specs.Flags.{kind_number, kinds}
 use Rattle.words.specs.Words.{ascii, decimal, labelled, newline, kind_name}

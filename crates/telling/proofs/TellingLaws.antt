@@ -3,24 +3,21 @@
 use Rattle.std.specs.Prelude.{Option, Some}
 use Prim.Native.Nat.{ℕ, ◌*◌, ◌≤◌}
 use mathlib.Core.Path.{◌≡◌, refl, sym, ap, ◌∙◌, subst}
-use mathlib.Core.Bool.{Bool, true, false}
-use mathlib.Core.List.{List, [], ◌++◌, append-nil}
+use mathlib.Core.List.{List, [], append-nil}
 use native.Mathlib.Omega.{arith}
 use lib.ListN.{length, take}
 use Rattle.numbers.specs.Store.{put}
 use Rattle.numbers.proofs.Stores.{put_stands}
 use Rattle.reader.proofs.GroupRows.{length_group_rows}
 use Rattle.reader.specs.declared.Reader.{Reader}
-use Rattle.reader.specs.declared.ReaderStart.{ReaderStart}
 use Rattle.reader.specs.declared.ReadAnswer.{ReadAnswer}
 use Rattle.reader.specs.declared.ReadAnswer.TheVariants as answer
-use Rattle.reader.specs.Answer.{reader_start_call, read_call, group_rows, rows_left, as_numbers, Reads}
+use Rattle.reader.specs.Answer.{read_call, group_rows, rows_left, as_numbers, Reads}
 use Rattle.reader.proofs.Accepted.{accepted}
-use Rattle.sections.specs.declared.Pair.{Pair}
 use Rattle.words.specs.Added.{Added}
-use Rattle.lines.specs.Text.{row_lines, group_lines, repeat_line, refusal_line, end_line}
+use Rattle.lines.specs.Text.{row_lines, group_lines, repeat_line, refusal_line}
 use Rattle.lines.proofs.RowLaws.{rows_first}
-use Rattle.telling.specs.Telling.{Step, last, bad_step, step_of_start, start_step, step_of_read, most_entries, row_numbers, read_step, group_step, end_step, longest_text, Tells}
+use Rattle.telling.specs.Telling.{Step, last, step_of_read, most_entries, row_numbers, read_step, longest_text, Tells}
 
 -- A text that was added, and how the run goes on, are a step told; by whatever other account that step is the same.
 pub tells : {most : ℕ} {old new : List ℕ} {step other : Step} {then : Option Reader}

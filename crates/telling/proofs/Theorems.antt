@@ -8,7 +8,7 @@ use mathlib.Core.List.{List, []}
 use native.Mathlib.Omega.{arith}
 use borrow.Author.Tests.{le-leb, leb-true}
 use lib.Dec.{eqb, leb}
-use lib.ListN.{length, take}
+use lib.ListN.{length}
 use Rattle.numbers.proofs.Tests.{both}
 use Rattle.group.specs.Sizes.{information_length, entry_length, entries_kept}
 use Rattle.reader.specs.declared.Reader.{Reader}
@@ -16,7 +16,7 @@ use Rattle.reader.specs.declared.ReadAnswer.TheVariants as answer
 use Rattle.reader.specs.Answer.{sound, length_kept, is_repeat, next_is, rows_fit, read_refusal, answered, group_scan, read_call}
 use Rattle.sections.specs.Sections.{largest_size}
 use Rattle.lines.specs.Text.{repeat_line}
-use Rattle.telling.specs.Telling.{Step, row_numbers, read_step, longest_text, Tells}
+use Rattle.telling.specs.Telling.{Step, row_numbers, read_step, Tells}
 
 -- What the program hands to its one write is a text that was empty before the step: it is the step's text.
 pub told_first : (step : Step) (text : List ℕ) (then : Option Reader) → Tells step [] text then → text ≡ step.text

@@ -1,5 +1,5 @@
 -- `add_found_words` meets its contract where a kind was found: its name, then the permitted ones. Assumes nothing.
-use Rattle.std.proofs.Common.{ℕ, ◌+◌, ◌≡◌, List, ◌++◌, append_assoc, refl, arith}
+use Rattle.std.proofs.Common.{ℕ, ◌≡◌, List, ◌++◌, append_assoc, refl, arith}
 use Rattle.reason_lines.specs.Lines.{found_words}
 use Rattle.reason_lines.proofs.add_found_words.Goals as goal
 
