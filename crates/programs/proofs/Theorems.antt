@@ -24,7 +24,7 @@ use Rattle.sections.specs.Sections.{sections_of, pair_at}
 use Rattle.telling.specs.Telling.{bad_step, step_of_start, start_step, step_of_read, row_numbers, read_step, group_step, end_step}
 use Rattle.reason_lines.specs.Lines.{refused_lines}
 use Rattle.explaining.specs.Steps.{start_explained, started_step, explain_start, reading_step, row_bytes, explain_read, explain_group}
-use Rattle.programs.specs.declared.Program.TheVariants.{Lister, Explainer}
+use Rattle.programs.specs.Steps.{Lister, Explainer}
 use Rattle.programs.specs.Printed.{and_then, groups_printed, sections_printed, printed}
 use Rattle.programs.specs.SameLine.{LastLine, SameLine}
 use Rattle.programs.specs.SameLine.LastLine.{bad, ended, refused}
