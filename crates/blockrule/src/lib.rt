@@ -1,7 +1,7 @@
 // Change request 2026-09: the rule of a block over a group's entries. The leaf has a `requires`, on a group whose table fits.
 #![tactic(auto)]
 
-ghost use Rattle.std.specs.Prelude.{unwrap_or, ◌≡◌, ◌+◌, ◌*◌, ◌-◌, ◌≤◌, length};
+ghost use Rattle.std.specs.Prelude.{◌≡◌, ◌+◌, ◌*◌, ◌-◌, ◌≤◌, length};
 ghost use Rattle.group.specs.Sizes.{information_length, entry_length};
 ghost use Rattle.group.specs.Flags.{meaning_of};
 ghost use Rattle.group.specs.Entries.{entries_below};
@@ -28,7 +28,7 @@ fn block_kept(flag: u8, count: u32, block: u32) -> bool
 // The place of the first entry of a group that breaks the rule.
 pub fn other_at(group: &[u8], size: u32, entries: u32, block: u32) -> Option<u32>
     requires { (information_length + entry_length * entries ≤ size) × (size ≤ length group.now) }
-    ensures { unwrap_or result 0 ≡ other_at block (entries_below group.now (size - information_length) entries) 1 }
+    ensures { result ≡ other_at block (entries_below group.now (size - information_length) entries) 1 }
 {
     let limit = size - Group::INFORMATION_LENGTH - Group::ENTRY_LENGTH * entries;
     for left in (0..entries).rev() {
