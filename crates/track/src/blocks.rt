@@ -22,7 +22,10 @@ pub(crate) fn pack_in(packs: &[u8; Track::PACKS_LENGTH], block: u8) -> u8
 }
 
 // What making answers where the slices are of their lengths.
-pub(crate) fn judge_making(area: u32, packs: &[u8; Track::PACKS_LENGTH]) -> Result<(), Refused<TrackRefusal>>
+pub(crate) fn judge_making(
+    area: u32,
+    packs: &[u8; Track::PACKS_LENGTH],
+) -> Result<(), Refused<TrackRefusal>>
     ensures { answer_of result ≡ make_call area packs.now items_length track_length numbers_length }
 {
     if !header::area_kept(area) {
@@ -40,7 +43,10 @@ pub(crate) fn judge_making(area: u32, packs: &[u8; Track::PACKS_LENGTH]) -> Resu
 }
 
 // What reading answers where the slices are of their lengths.
-pub(crate) fn judge_reading(area: u32, track: &[u8; Track::LENGTH]) -> Result<(), Refused<TrackRefusal>>
+pub(crate) fn judge_reading(
+    area: u32,
+    track: &[u8; Track::LENGTH],
+) -> Result<(), Refused<TrackRefusal>>
     ensures { answer_of result ≡ read_call area track.now packs_length items_length numbers_length }
 {
     let (blocks, _) = track.as_chunks();

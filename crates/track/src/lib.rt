@@ -69,7 +69,9 @@ impl Track {
     ) -> Result<(), Refused<TrackRefusal>>
         ensures { Reads area frame track.now packs.old items.old numbers.old (answer_of result) packs.new items.new numbers.new }
     {
-        let track = track.as_array::<{ Self::LENGTH }>().ok_or(TrackRefusal::Length)?;
+        let track = track
+            .as_array::<{ Self::LENGTH }>()
+            .ok_or(TrackRefusal::Length)?;
         let packs = packs
             .as_mut_array::<{ Self::PACKS_LENGTH }>()
             .ok_or(TrackRefusal::Length)?;

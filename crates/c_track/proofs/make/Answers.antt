@@ -12,7 +12,7 @@ use Rattle.c_track.proofs.make.Goals as goal
 
 pub returns-then-answer-ne-ANSWER_LENGTH : goal.returns-then-answer-ne-ANSWER_LENGTH
 unfolding dds_subdata_make
-returns-then-answer-ne-ANSWER_LENGTH c = rw c.from.ensures (stopped _ _ _ _ (ne_eqb _ _ c.if-answer-ne-ANSWER_LENGTH.true))
+returns-then-answer-ne-ANSWER_LENGTH c = rw c.number.ensures (stopped _ _ _ _ (ne_eqb _ _ c.if-answer-ne-ANSWER_LENGTH.true))
 
 pub returns : goal.returns
 returns c =
