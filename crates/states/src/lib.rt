@@ -47,6 +47,7 @@ fn phase_meant(slice: &[u8]) -> bool
 }
 
 // Whether the phase, b4 and accepted of a reader's slice are numbers that have a meaning.
+#[tactic(auto, unfolding(crate::specs::States::reader_meant))]
 pub fn reader_meant(slice: &[u8]) -> bool
     requires { length slice.now ≡ reader_length }
     ensures { result ≡ reader_meant slice.now }
@@ -55,6 +56,7 @@ pub fn reader_meant(slice: &[u8]) -> bool
 }
 
 // Whether the phase and b4 of a writer's slice, and a call's `warn`, are numbers that have a meaning.
+#[tactic(auto, unfolding(crate::specs::States::writer_meant))]
 pub fn writer_meant(slice: &[u8], warn: u32) -> bool
     requires { length slice.now ≡ writer_length }
     ensures { result ≡ (writer_meant slice.now && b4_meant warn) }
@@ -76,6 +78,7 @@ fn run_of(slice: &[u8]) -> Run
 }
 
 // The state that a reader's slice holds.
+#[tactic(auto, unfolding(crate::specs::States::reader_of))]
 pub fn reader_of(slice: &[u8]) -> Reader
     requires { length slice.now ≡ reader_length }
     ensures { result ≡ reader_of slice.now }
@@ -91,30 +94,21 @@ pub fn reader_of(slice: &[u8]) -> Reader
     }
 }
 
-// A writer's state from its slice and what that begins with.
-fn writer_behind(run: Run, slice: &[u8]) -> Writer
-    requires slice_len { length slice.now ≡ writer_length }
-    requires run_value { run ≡ run_of slice.now }
+// The state that a writer's slice holds.
+#[tactic(auto, unfolding(crate::specs::States::writer_of))]
+pub fn writer_of(slice: &[u8]) -> Writer
+    requires { length slice.now ≡ writer_length }
     ensures { result ≡ writer_of slice.now }
 {
-    let phase = run.phase;
+    let run = run_of(slice);
     Writer {
         size: run.size,
         next: run.next,
-        phase,
+        phase: run.phase,
         warned: numbers::number_at(slice, 24) == 1,
         sum: run.sum,
         rest: numbers::number_at(slice, 28),
         filled: numbers::number_at(slice, 16),
         entries: numbers::number_at(slice, 20),
     }
-}
-
-// The state that a writer's slice holds.
-pub fn writer_of(slice: &[u8]) -> Writer
-    requires { length slice.now ≡ writer_length }
-    ensures { result ≡ writer_of slice.now }
-{
-    let run = run_of(slice);
-    writer_behind(run, slice)
 }
