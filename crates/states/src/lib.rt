@@ -26,6 +26,7 @@ pub const READER_LENGTH: usize = 24;
 pub const WRITER_LENGTH: usize = 32;
 
 // Asked from the greatest down, which the compiler makes less of.
+#[tactic(auto, using(numbers::proofs::Tests::tests))]
 fn phase_of(n: u32) -> Phase
     ensures { result ≡ phase_of n }
 {
@@ -83,14 +84,19 @@ pub fn reader_of(slice: &[u8]) -> Reader
     requires { length slice.now ≡ reader_length }
     ensures { result ≡ reader_of slice.now }
 {
-    let run = run_of(slice);
+    let Run {
+        size,
+        next,
+        phase,
+        sum,
+    } = run_of(slice);
     Reader {
-        size: run.size,
-        next: run.next,
-        phase: run.phase,
+        size,
+        next,
+        phase,
         warned: numbers::number_at(slice, 16) == 1,
         accepted: numbers::number_at(slice, 20) == 1,
-        sum: run.sum,
+        sum,
     }
 }
 
@@ -106,7 +112,7 @@ pub fn writer_of(slice: &[u8]) -> Writer
         next: run.next,
         phase: run.phase,
         warned: numbers::number_at(slice, 24) == 1,
-        sum: run.sum,
+        sum,
         rest: numbers::number_at(slice, 28),
         filled: numbers::number_at(slice, 16),
         entries: numbers::number_at(slice, 20),

@@ -8,6 +8,7 @@ use Rattle.numbers.specs.Numbers.{bytes_of}
 use Rattle.numbers.specs.Store.{put}
 use Rattle.numbers.proofs.InBytes.{puts, puts_whole, put_standing}
 use Rattle.states.specs.States.{phase_number, b4_number, reader_bytes}
+use Rattle.storing.proofs.Casts.{phase_cast, b4_cast}
 use Rattle.storing.proofs.put_next.Goals.{After-number_at-next}
 use Rattle.storing.proofs.put_next.Goals as goal
 
