@@ -48,7 +48,7 @@ fn phase_meant(slice: &[u8]) -> bool
 }
 
 // Whether the phase, b4 and accepted of a reader's slice are numbers that have a meaning.
-#[tactic(auto, unfolding(crate::specs::States::reader_meant))]
+#[tactic(auto, unfolding(crate::specs::States::reader_meant), using(numbers::proofs::Tests::tests))]
 pub fn reader_meant(slice: &[u8]) -> bool
     requires { length slice.now ≡ reader_length }
     ensures { result ≡ reader_meant slice.now }
@@ -57,7 +57,7 @@ pub fn reader_meant(slice: &[u8]) -> bool
 }
 
 // Whether the phase and b4 of a writer's slice, and a call's `warn`, are numbers that have a meaning.
-#[tactic(auto, unfolding(crate::specs::States::writer_meant))]
+#[tactic(auto, unfolding(crate::specs::States::writer_meant), using(numbers::proofs::Tests::tests))]
 pub fn writer_meant(slice: &[u8], warn: u32) -> bool
     requires { length slice.now ≡ writer_length }
     ensures { result ≡ (writer_meant slice.now && b4_meant warn) }
@@ -106,11 +106,16 @@ pub fn writer_of(slice: &[u8]) -> Writer
     requires { length slice.now ≡ writer_length }
     ensures { result ≡ writer_of slice.now }
 {
-    let run = run_of(slice);
+    let Run {
+        size,
+        next,
+        phase,
+        sum,
+    } = run_of(slice);
     Writer {
-        size: run.size,
-        next: run.next,
-        phase: run.phase,
+        size,
+        next,
+        phase,
         warned: numbers::number_at(slice, 24) == 1,
         sum,
         rest: numbers::number_at(slice, 28),

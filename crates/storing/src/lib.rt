@@ -8,21 +8,8 @@ ghost use Rattle.numbers.specs.Numbers.{bytes_of, in_bytes};
 ghost use Rattle.states.specs.States.{reader_length, writer_length, phase_number, b4_number, reader_bytes, writer_bytes};
 ghost use Rattle.storing.specs.ForContracts.{Follows};
 
-use group::Phase;
 use laying::Writer;
 use reader::Reader;
-
-fn phase_number(phase: Phase) -> u32
-    ensures { result ≡ phase_number phase }
-{
-    phase as u32
-}
-
-fn b4_number(warned: bool) -> u32
-    ensures { result ≡ b4_number warned }
-{
-    u32::from(warned)
-}
 
 // A number from index `at` on. One that stands there already is not stored again: the test keeps its four byte stores apart
 // from the next number's, so that they become one, and the next call's load does not wait for them.
@@ -44,9 +31,9 @@ pub fn put_next(slice: &mut [u8], r: Reader)
 {
     let next = numbers::number_at(slice, 4) + 1;
     numbers::put_number(slice, 4, next);
-    keep(slice, 8, phase_number(r.phase));
+    keep(slice, 8, r.phase as u32);
     keep(slice, 12, r.sum);
-    keep(slice, 16, b4_number(r.warned));
+    keep(slice, 16, u32::from(r.warned));
     numbers::put_number(slice, 20, 1);
 }
 
@@ -57,11 +44,11 @@ pub fn put_writer(slice: &mut [u8], w: Writer)
 {
     keep(slice, 0, w.size);
     keep(slice, 4, w.next);
-    keep(slice, 8, phase_number(w.phase));
+    keep(slice, 8, w.phase as u32);
     keep(slice, 12, w.sum);
     keep(slice, 16, w.filled);
     keep(slice, 20, w.entries);
-    keep(slice, 24, b4_number(w.warned));
+    keep(slice, 24, u32::from(w.warned));
     keep(slice, 28, w.rest);
 }
 
