@@ -1,4 +1,4 @@
--- `run_group` goes on as its step does, and stops where that could not be written. Assumes nothing.
+-- `group` goes on as its step does, and stops where that could not be written. Assumes nothing.
 use Rattle.std.proofs.Common.{rules, ℕ, ◌≡◌, sym, ap, subst, ◌∙◌, false, is_some, List, [], replicate, Option, None, Bor}
 use Rattle.std.proofs.lemmas.List.{length-replicate}
 use Rattle.reader.specs.declared.Reader.{Reader}
@@ -8,8 +8,8 @@ use Rattle.telling.specs.Telling.{Step, bad_step}
 use Rattle.programs.specs.Steps.{Program, group_of, image_of}
 use Rattle.programs.proofs.StepLaws.{group_short}
 use Rattle.runfile.specs.Follows.{Follows}
-use Rattle.runfile.proofs.run_group.Goals.{in-Ok, in-Err}
-use Rattle.runfile.proofs.run_group.Goals as goal
+use Rattle.runfile.proofs.Run.group.Goals.{in-Ok, in-Err}
+use Rattle.runfile.proofs.Run.group.Goals as goal
 
 -- A run that stops goes on as after an image cut short.
 stopped : (p : Program) (i : ℕ) (s : Reader) (size : ℕ) (pair : Pair) {then : Option Reader} → then ≡ None → Follows p i s size pair then
