@@ -2,66 +2,60 @@
 // change request 2026-01.
 #![tactic(auto)]
 
-ghost use Rattle.std.specs.Prelude.{◌≡◌, ◌+◌, ◌<◌, ◌≤◌, length};
-ghost use Rattle.numbers.specs.Store.{put};
-ghost use Rattle.block.specs.Block.{item_length, data_part_length, block_length, close_of, block_of};
+ghost use Rattle.std.specs.Prelude.{◌≡◌, length};
+ghost use Rattle.answer.specs.Numbers.{track_number};
+ghost use Rattle.answer.specs.Results.{number_of};
+ghost use Rattle.block.specs.Block.{block_length, data_part_length, block_of};
 ghost use Rattle.block.specs.Faults.{close_kept, block_fault};
 
-// The length of a Pack Item, and of a close.
-pub const ITEM_LENGTH: usize = 8;
+use answer::refusals::TrackRefusal;
+use header::Header;
 
-// A block's close from index `at` on: zeros with Pack ID 6, otherwise the close that is lent.
-fn put_close(track: &mut [u8], at: usize, pack: u8, close: &[u8])
-    requires { (at + item_length ≤ length track.old) × (length close.now ≡ item_length) }
-    ensures { track.new ≡ put track.old at (close_of pack close.now) }
+// The length of a block, and of its four places.
+pub const LENGTH: usize = 35;
+
+pub const DATA_PART_LENGTH: usize = 32;
+
+// One block: 3 bytes of header, 24 of items and 8 of close, from the four places that are lent. With Pack ID 6 it closes in
+// zeros, whatever was lent.
+pub fn put_block(block: &mut [u8], header: Header, places: &[u8; DATA_PART_LENGTH])
+    requires { length block.old ≡ block_length }
+    ensures { block.new ≡ block_of header.area header.pack header.block places.now }
 {
-    if pack == 6 {
-        numbers::bytes::put_zeros(track, at, at + ITEM_LENGTH);
-        return;
+    block[..3].copy_from_slice(&header.bytes());
+    block[3..27].copy_from_slice(&places[..24]);
+    if header.pack == 6 {
+        block[27..].fill(0);
+    } else {
+        block[27..].copy_from_slice(&places[24..]);
     }
-    numbers::bytes::put_bytes(track, at, close);
-}
-
-// One block from index `at` on, from the four places that are lent.
-pub fn put_block(track: &mut [u8], at: usize, area: u32, pack: u8, block: u8, places: &[u8])
-    requires block_length_in_bounds { (at + block_length ≤ length track.old) × (length places.now ≡ data_part_length) }
-    requires area_bound { (area < 16) × ((pack < 8) × (block < 16)) }
-    ensures { track.new ≡ put track.old at (block_of area pack block places.now) }
-{
-    header::put_header(track, at, area, pack, block);
-    numbers::bytes::put_bytes(track, at + 3, &places[0..24]);
-    put_close(track, at + 27, pack, &places[24..]);
 }
 
 // Whether a block closes in zeros where its Pack ID is 6.
-fn close_kept(block: &[u8]) -> bool
-    requires { length block.now ≡ block_length }
+#[tactic(auto, using(crate::proofs::BlockLaws::close_at))]
+fn close_kept(block: &[u8; LENGTH]) -> bool
     ensures { result ≡ close_kept block.now }
 {
-    if header::pack_of(block[1]) != 6 {
-        return true;
-    }
-    numbers::bytes::are_zeros(&block[27..])
+    header::pack_of(block[1]) != 6 || numbers::bytes::are_zeros(&block[27..])
 }
 
-// The refusal that a block meets, 0 if it has no fault.
-pub fn block_fault(area: u32, number: u8, block: &[u8]) -> u32
-    requires { length block.now ≡ block_length }
-    ensures { result ≡ block_fault area number block.now }
+// The first rule that a block breaks, as its refusal.
+#[tactic(auto, unfolding(crate::specs::Faults::block_fault))]
+pub fn judge_block(area: u32, number: u8, block: &[u8; LENGTH]) -> Result<(), TrackRefusal>
+    ensures { number_of track_number result ≡ block_fault area number block.now }
 {
-    let sw1 = block[0];
-    let sw2 = block[1];
-    if block[2] != sw1 ^ sw2 {
-        return 31;
+    let [sw1, sw2, parity, ..] = *block;
+    if parity != sw1 ^ sw2 {
+        return Err(TrackRefusal::Parity);
     }
     if !header::sw1_kept(area, number, sw1) {
-        return 32;
+        return Err(TrackRefusal::Sw1);
     }
     if !header::sw2_kept(number, sw2) {
-        return 33;
+        return Err(TrackRefusal::Sw2);
     }
     if !close_kept(block) {
-        return 34;
+        return Err(TrackRefusal::Close);
     }
-    0
+    Ok(())
 }

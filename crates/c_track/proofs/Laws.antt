@@ -5,8 +5,7 @@ use mathlib.Core.Bool.{true}
 use mathlib.Core.List.{List, [], ◌∷◌}
 use Prim.Native.Nat.{ℕ}
 use Rattle.answer.specs.Answer.{Told}
-use Rattle.track.specs.declared.TrackAnswer.{TrackAnswer}
-use Rattle.track.specs.Answer.{told, Makes, Reads}
+use Rattle.track.specs.Answer.{TrackAnswer, told, Makes, Reads}
 use Rattle.slices.specs.Call.{left, answer_kept, Tells}
 use Rattle.slices.proofs.Calls.{answered, none_lent, more_lent}
 use Rattle.c_track.specs.Calls.{dds_subdata_make, dds_subdata_read}

@@ -7,10 +7,8 @@ use Prim.Native.Nat.{ℕ}
 use borrow.Author.Tests.{eq-eqb, eqb-true}
 use lib.ListN.{length}
 use Rattle.answer.specs.Answer.{refusal_told}
-use Rattle.track.specs.declared.TrackAnswer.{TrackAnswer}
-use Rattle.track.specs.declared.TrackAnswer.TheVariants.{Accepted}
 use Rattle.track.specs.Blocks.{items_given_back}
-use Rattle.track.specs.Answer.{make_call, read_call, told, Makes, Reads}
+use Rattle.track.specs.Answer.{TrackAnswer, Accepted, make_call, read_call, told, Makes, Reads}
 use Rattle.track.proofs.Judged.{make_told, read_told}
 use Rattle.track.proofs.Theorems.{subdata_returned, subdata_only_made}
 use Rattle.slices.specs.Call.{Left, answer_length}

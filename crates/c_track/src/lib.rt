@@ -2,22 +2,12 @@
 #![tactic(auto)]
 
 ghost use Rattle.std.specs.Prelude.{◌≡◌, [], ◌∷◌};
-ghost use Rattle.track.specs.Answer.{told};
 ghost use Rattle.slices.specs.Call.{left};
 ghost use Rattle.c_track.specs.Calls.{dds_subdata_make, dds_subdata_read};
 
-use answer::Told;
-use track::{Track, TrackAnswer};
-
-// What a call tells of its answer.
-fn told(done: TrackAnswer) -> Told
-    ensures { result ≡ told done }
-{
-    match done {
-        TrackAnswer::Accepted => Told::Accepted(0, 0, 0, 0),
-        TrackAnswer::Refused { refusal, place } => Told::RefusedAt(refusal, place),
-    }
-}
+use answer::Outcome;
+use answer::refusals::TrackRefusal;
+use track::Track;
 
 // A track from its Area ID, Pack IDs and items, and the Item number of each place.
 pub fn make(
@@ -32,10 +22,10 @@ pub fn make(
     ensures { left result (track.new ∷ numbers.new ∷ []) answer.new ≡ dds_subdata_make area frame packs.now items.now track.old numbers.old answer.old }
 {
     if answer.len() != slices::ANSWER_LENGTH {
-        return 1;
+        return u32::from(TrackRefusal::State);
     }
     let done = Track::make(area, frame, packs, items, track, numbers);
-    slices::tell(answer, told(done))
+    slices::tell(answer, done.map(|()| Outcome::default()))
 }
 
 // A track's Pack IDs and what stands at its places, and the Item number of each place.
@@ -51,8 +41,8 @@ pub fn read(
     ensures { left result (packs.new ∷ items.new ∷ numbers.new ∷ []) answer.new ≡ dds_subdata_read area frame track.now packs.old items.old numbers.old answer.old }
 {
     if answer.len() != slices::ANSWER_LENGTH {
-        return 1;
+        return u32::from(TrackRefusal::State);
     }
     let done = Track::read(area, frame, track, packs, items, numbers);
-    slices::tell(answer, told(done))
+    slices::tell(answer, done.map(|()| Outcome::default()))
 }

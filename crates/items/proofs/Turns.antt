@@ -1,32 +1,26 @@
 -- Laws of lists that are said chunk by chunk: a chunk of what was made in turn, a list from its chunks, and loops that fill one.
 -- Assumes nothing.
 use mathlib.Core.Path.{◌≡◌, refl, sym, ap, ◌∙◌}
-use mathlib.Core.List.{List, [], ◌∷◌, ◌++◌}
-use Prim.Native.Nat.{ℕ, zero, suc, ◌+◌, ◌*◌, ◌-◌, ◌≤◌, ◌<◌, zero-le}
-use native.Mathlib.Nat.{not-suc-le-zero, le_of_suc-le-suc, mul-zero, mul-suc, sub-zero, add-zero, zero-add, suc-add, add-suc}
+use mathlib.Core.List.{List, [], ◌∷◌, ◌++◌, append_assoc}
+use Prim.Native.Nat.{ℕ, zero, suc, ◌+◌, ◌*◌, ◌-◌, ◌≤◌, ◌<◌}
+use native.Mathlib.Nat.{not-suc-le-zero, le_of_suc-le-suc, mul-le-mul_left, mul-zero, mul-suc, add-zero, zero-add, suc-add, add-suc}
 use native.Mathlib.Numerals.{add-one}
 use native.Mathlib.Omega.{arith}
-use lib.ListN.{length, get_or, take, drop, length-append, length-drop}
-use lib.Seq.{length-take-le, take_at, take-add, drop-drop, take-nil, drop-append-add, take_all}
+use lib.ListN.{length, get_or, take, drop, length-append}
+use lib.Seq.{take_at, take-add, drop-drop, drop-append-add, take_all}
+use Rattle.std.specs.Simd.{first_chunks}
 use Rattle.numbers.specs.Store.{put}
-use Rattle.numbers.proofs.Stores.{put_none, put_put, put_whole}
+use borrow.Rule.Slice.PartMut.{put_mid}
+use Rattle.numbers.proofs.Stores.{length_put, put_none, put_split, put_put, put_whole}
 use Rattle.items.specs.Turns.{chunk, in_turn}
 
--- What follows the first n of n + m.
-pub drop_take : (n m : ℕ) (l : List ℕ) → drop n (take (n + m) l) ≡ take m (drop n l)
-drop_take zero m l = rw (zero-add m)
-drop_take (suc n) m [] = rw (suc-add n m) (sym (take-nil m))
-drop_take (suc n) m (x ∷ l) = rw (suc-add n m) (drop_take n m l)
-
--- What lies between two indices that are so far apart, and how long it is.
-pub between_ends : (from width : ℕ) (l : List ℕ) → take (from + width - from) (drop from l) ≡ take width (drop from l)
-between_ends from width l =
-    let apart : from + width - from ≡ width = omega arith in
-    ap (λ (n : ℕ). take n (drop from l)) apart
-
-pub length_between : (from width : ℕ) (l : List ℕ) → from + width ≤ length l → length (take (from + width - from) (drop from l)) ≡ width
-length_between from width l h =
-    ap length (between_ends from width l) ∙ length-take-le width (drop from l) (omega (arith, length-drop from l))
+-- A chunk, read from the chunks that the slice is taken as.
+pub chunk_read : (width n : ℕ) (s : List ℕ) (k : ℕ) → k < n → get_or (first_chunks width n s) k [] ≡ chunk width s k
+chunk_read width zero s k less = absurd (not-suc-le-zero less)
+chunk_read width (suc n) s zero less = rw (mul-zero width)
+chunk_read width (suc n) s (suc k) less =
+    let place : width + width * k ≡ width * suc k = omega (arith, mul-suc width k) in
+    chunk_read width n (drop width s) k (le_of_suc-le-suc less) ∙ ap (take width) (drop-drop (width * k) width s ∙ ap (λ (i : ℕ). drop i s) place)
 
 -- Equal in each turn, equal in all.
 pub turns_same : (f g : ℕ → List ℕ) (i n : ℕ) → ((k : ℕ) → k < i + n → f k ≡ g k) → in_turn f i n ≡ in_turn g i n
@@ -70,6 +64,10 @@ module _ (f : ℕ → List ℕ) (width count : ℕ) (wide : Wide f width count) 
   pub chunk_of_turns : (k : ℕ) → k < count → chunk width (in_turn f 0 count) k ≡ f k
   chunk_of_turns k h = chunk_from 0 count k (omega arith) h ∙ ap f (zero-add k)
 
+-- A write over a part of a list is a store.
+part_put : (old : List ℕ) (at n : ℕ) (new : List ℕ) → length new ≡ n → at + length new ≤ length old → put_mid at n old new ≡ put old at new
+part_put old at n new e h = rw (put_split old at new h, append_assoc, drop-drop n at old, e)
+
 -- A loop that stores, at each turn k, what f gives there: what is stored and what is left to store are all of it.
 pub record Filled (f : ℕ → List ℕ) (width count : ℕ) (old now : List ℕ) (k : ℕ) : Type 0 where
   pub within : k ≤ count
@@ -77,9 +75,6 @@ pub record Filled (f : ℕ → List ℕ) (width count : ℕ) (old now : List ℕ
   pub same : put now (width * k) (in_turn f k (count - k)) ≡ put old 0 (in_turn f 0 count)
 
 module _ (f : ℕ → List ℕ) (width count : ℕ) where
-  pub filled_none : (old : List ℕ) → Filled f width count old old 0
-  filled_none old = record { within = zero-le; long = refl; same = rw (mul-zero width, sub-zero count) }
-
   pub filled_turn : (old now after : List ℕ) (k : ℕ) → k < count → length (f k) ≡ width → length after ≡ length now
       → after ≡ put now (width * k) (f k) → Filled f width count old now k → Filled f width count old after (k + 1)
   unfolding in_turn
@@ -92,6 +87,15 @@ module _ (f : ℕ → List ℕ) (width count : ℕ) where
         long = long ∙ s.long;
         same = rw (e, place, put_put now (width * k) (f k) (in_turn f (k + 1) (count - (k + 1))), add-one k) (rw (add-one k) at all);
       }
+
+  -- A turn that writes its list over a part of the slice.
+  pub filled_part : (old now new : List ℕ) (k at n : ℕ) → k < count → at ≡ width * k → n ≡ width → new ≡ f k → length (f k) ≡ width → length old ≡ width * count
+      → Filled f width count old now k → Filled f width count old (put_mid at n now new) (k + 1)
+  filled_part old now new k at n less a w e wide long s =
+      let room : width * suc k ≤ width * count = mul-le-mul_left width less in
+      let fits : width * k + length (f k) ≤ length now = omega (arith, s.long, mul-suc width k) in
+      let same : put_mid at n now new ≡ put now (width * k) (f k) = rw (a, w, e) (part_put now (width * k) width (f k) wide fits) in
+      filled_turn old now (put_mid at n now new) k less wide (rw same (length_put now (width * k) (f k))) same s
 
   -- Nothing is left to store, and nothing of what stood there is left.
   pub filled_done : Wide f width count → (old now : List ℕ) (k : ℕ) → count ≤ k → length old ≡ width * count

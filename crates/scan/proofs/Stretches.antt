@@ -18,7 +18,7 @@ use Rattle.group.proofs.FlagLaws.{meaning_of_flag}
 use Rattle.entry.specs.declared.Cursor.{Cursor}
 use Rattle.entry.specs.declared.Stand.{Stand}
 use Rattle.entry.specs.declared.Stand.TheVariants.{Free, AfterPart, Inside, AfterLast, Owed}
-use Rattle.entry.specs.declared.ScanEnd.TheVariants.{Reached}
+use Rattle.entry.specs.ScanEnd.{Reached}
 use Rattle.entry.specs.Rules.{may_follow, may_owe, b4_kept, entry_fault}
 use Rattle.entry.specs.Scan.{after}
 use Rattle.entry.specs.Bounds.{stand_number}

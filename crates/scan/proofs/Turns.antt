@@ -13,8 +13,8 @@ use Rattle.group.specs.Sizes.{entry_offset}
 use Rattle.group.specs.Entries.{entry_at, entries_below}
 use Rattle.group.specs.Flags.{meaning_of}
 use Rattle.entry.specs.declared.Cursor.{Cursor}
-use Rattle.entry.specs.declared.ScanEnd.{ScanEnd}
-use Rattle.entry.specs.declared.ScanEnd.TheVariants.{Reached, Refused}
+use Rattle.entry.specs.ScanEnd.{ScanEnd}
+use Rattle.entry.specs.ScanEnd.{Reached, Refused}
 use Rattle.entry.specs.Rules.{entry_fault}
 use Rattle.entry.specs.Scan.{after, is_last, onward, scan}
 use Rattle.scan.specs.Stretch.{scan_left}

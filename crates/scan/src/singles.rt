@@ -5,7 +5,7 @@ ghost use Rattle.group.specs.declared.Entry.{Entry};
 ghost use Rattle.group.specs.Sizes.{standard_size, entry_offset};
 ghost use Rattle.group.specs.Flags.{flag_of};
 ghost use Rattle.group.specs.ForContracts.{Word};
-ghost use Rattle.entry.specs.declared.ScanEnd.TheVariants.{Reached};
+ghost use Rattle.entry.specs.ScanEnd.{Reached};
 ghost use Rattle.entry.specs.Rules.{may_follow};
 ghost use Rattle.entry.specs.Bounds.{Cut, Bounded};
 ghost use Rattle.scan.specs.Stretch.{Single, scan_left, moved_to};
@@ -58,7 +58,7 @@ pub(crate) fn pass(group: &[u8], size: u32, entries: u32, left: u32, here: Curso
     let mut sum = here.sum;
     let mut reached = here.reached;
     let stand = here.stand;
-    if rules::stand_number(stand) != 0 {
+    if stand != Stand::Free {
         return Stretch { left, sum, reached };
     }
     while 1 < left {
@@ -79,13 +79,7 @@ pub(crate) fn pass(group: &[u8], size: u32, entries: u32, left: u32, here: Curso
 fn may_end(stand: Stand) -> bool
     ensures { result ≡ may_follow stand Kind.Skip }
 {
-    match stand {
-        Stand::Free => true,
-        Stand::AfterPart => true,
-        Stand::Inside => false,
-        Stand::AfterLast => true,
-        Stand::Owed => false,
-    }
+    !matches!(stand, Stand::Inside | Stand::Owed)
 }
 
 // Whether one entry is left, and is a skip that keeps its rules and has the b4 of the entry before it.

@@ -7,7 +7,7 @@ use Prim.Native.Nat.{ℕ, zero, suc, ◌+◌, ◌-◌, ◌≤◌, ◌<◌}
 use native.Mathlib.Nat.{add-zero, zero-add, suc-add, add-suc}
 use native.Mathlib.Numerals.{add-one}
 use native.Mathlib.Omega.{arith}
-use borrow.Author.Tests.{eq-eqb, ne_eqb, eqb-true, eqb-false}
+use borrow.Author.Tests.{eq-eqb, eqb-true, eqb-false}
 use lib.Dec.{eqb}
 use lib.ListN.{length}
 use Rattle.answer.specs.Answer.{refusal_told}
@@ -16,12 +16,14 @@ use Rattle.header.specs.Header.{area_kept, pack_kept}
 use Rattle.header.proofs.TakenApart.{pack_small}
 use Rattle.items.specs.Items.{numbers_length}
 use Rattle.block.specs.Faults.{block_fault}
-use Rattle.track.specs.declared.TrackAnswer.{TrackAnswer}
-use Rattle.track.specs.declared.TrackAnswer.TheVariants.{Accepted, Refused}
 use Rattle.track.specs.Sizes.{track_length, packs_length, items_length}
 use Rattle.track.specs.Blocks.{pack_in, block_at}
 use Rattle.track.specs.Bounds.{PacksKept}
-use Rattle.track.specs.Answer.{lengths_kept, pack_fault, onward, fault_from, make_call, read_call, told}
+use Rattle.track.specs.Answer.{TrackAnswer, Accepted, Refused, lengths_kept, pack_fault, onward, fault_from, make_call, read_call, told, Makes, Reads}
+
+-- The fault of each block of a track that is read.
+abbrev pub fault_of : (area : ℕ) (track : List ℕ) → ℕ → ℕ
+fault_of area track block = block_fault area block (block_at track block)
 
 -- A loop over the blocks: the first fault from here on is the first of all.
 pub record Judging (fault : ℕ → ℕ) (block : ℕ) : Type 0 where
@@ -36,15 +38,15 @@ module _ (fault : ℕ → ℕ) (block refusal : ℕ) (less : block < 16) (is : r
       let all : onward (fault block) block (fault_from fault (suc block) (16 - (block + 1))) ≡ fault_from fault 0 16 = rw rest at j.same in
       rw (is, add-one block) (rw (add-one block) at all)
 
-  pub judged_fault : (refusal ≡ 0 → ⊥) → Refused refusal block ≡ fault_from fault 0 16
-  judged_fault h = sym (ap (λ (b : Bool). cond b (fault_from fault (block + 1) (16 - (block + 1))) (Refused refusal block)) (ne_eqb refusal 0 h)) ∙ turn
-
   pub judged_on : refusal ≡ 0 → Judging fault (block + 1)
   judged_on h =
       record {
         within = omega arith;
         same = sym (ap (λ (b : Bool). cond b (fault_from fault (block + 1) (16 - (block + 1))) (Refused refusal block)) (eq-eqb refusal 0 h)) ∙ turn;
       }
+
+  pub judged_fault : eqb refusal 0 ≡ false → Refused refusal block ≡ fault_from fault 0 16
+  judged_fault h = sym (ap (λ (b : Bool). cond b (fault_from fault (block + 1) (16 - (block + 1))) (Refused refusal block)) h) ∙ turn
 
 pub judged_all : (fault : ℕ → ℕ) (block : ℕ) → 16 ≤ block → Judging fault block → Accepted ≡ fault_from fault 0 16
 unfolding fault_from
@@ -120,6 +122,14 @@ module _ (track packs items numbers : ℕ) where
         numbers = eqb-true numbers numbers_length c.1;
       }
 
+  -- One that is not refuses the call.
+  pub lengths_broken : (Lengths track packs items numbers → ⊥) → lengths_kept track packs items numbers ≡ false
+  lengths_broken h = by (lengths_kept track packs items numbers) refl
+    where
+      by : (l : Bool) → lengths_kept track packs items numbers ≡ l → lengths_kept track packs items numbers ≡ false
+      by true x = absurd (h (lengths x))
+      by false x = x
+
   pub lengths_kept_lem : Lengths track packs items numbers → lengths_kept track packs items numbers ≡ true
   unfolding lengths_kept
   lengths_kept_lem l =
@@ -149,18 +159,18 @@ pub record ReadKept (area : ℕ) (track : List ℕ) (packs items numbers : ℕ) 
 
 -- What making answers, by its lengths, its Area ID and its Pack IDs.
 module _ (area : ℕ) (packs : List ℕ) (items track numbers : ℕ) where
-  pub make_lengths : lengths_kept track (length packs) items numbers ≡ false → Refused 30 0 ≡ make_call area packs items track numbers
+  pub make_lengths : (Lengths track (length packs) items numbers → ⊥) → Refused 30 0 ≡ make_call area packs items track numbers
   unfolding make_call
-  make_lengths e = rw e
+  make_lengths h = rw (lengths_broken track (length packs) items numbers h)
 
-  pub make_area : lengths_kept track (length packs) items numbers ≡ true → area_kept area ≡ false → Refused 32 0 ≡ make_call area packs items track numbers
+  pub make_area : Lengths track (length packs) items numbers → area_kept area ≡ false → Refused 32 0 ≡ make_call area packs items track numbers
   unfolding make_call
-  make_area e f = rw (e, f)
+  make_area l e = rw (lengths_kept_lem track (length packs) items numbers l, e)
 
-  pub make_packs : lengths_kept track (length packs) items numbers ≡ true → area_kept area ≡ true
+  pub make_packs : Lengths track (length packs) items numbers → area_kept area ≡ true
       → fault_from (pack_fault packs) 0 16 ≡ make_call area packs items track numbers
   unfolding make_call
-  make_packs e f = rw (e, f)
+  make_packs l e = rw (lengths_kept_lem track (length packs) items numbers l, e)
 
   pub make_kept : make_call area packs items track numbers ≡ Accepted → MakeKept area packs items track numbers
   unfolding make_call
@@ -188,18 +198,17 @@ module _ (area : ℕ) (packs : List ℕ) (items track numbers : ℕ) where
 
   pub make_accepts : MakeKept area packs items track numbers → make_call area packs items track numbers ≡ Accepted
   make_accepts m =
-      sym (make_packs (lengths_kept_lem track (length packs) items numbers m.long) m.allowed) ∙ none_found (pack_fault packs) 0 16 (λ k less. m.each k (omega arith))
+      sym (make_packs m.long m.allowed) ∙ none_found (pack_fault packs) 0 16 (λ k less. m.each k (omega arith))
 
 -- What reading answers, by its lengths and its blocks.
 module _ (area : ℕ) (track : List ℕ) (packs items numbers : ℕ) where
-  pub read_lengths : lengths_kept (length track) packs items numbers ≡ false → Refused 30 0 ≡ read_call area track packs items numbers
+  pub read_lengths : (Lengths (length track) packs items numbers → ⊥) → Refused 30 0 ≡ read_call area track packs items numbers
   unfolding read_call
-  read_lengths e = rw e
+  read_lengths h = rw (lengths_broken (length track) packs items numbers h)
 
-  pub read_blocks : lengths_kept (length track) packs items numbers ≡ true
-      → fault_from (λ (block : ℕ). block_fault area block (block_at track block)) 0 16 ≡ read_call area track packs items numbers
+  pub read_blocks : Lengths (length track) packs items numbers → fault_from (fault_of area track) 0 16 ≡ read_call area track packs items numbers
   unfolding read_call
-  read_blocks e = rw e
+  read_blocks l = rw (lengths_kept_lem (length track) packs items numbers l)
 
   pub read_kept : read_call area track packs items numbers ≡ Accepted → ReadKept area track packs items numbers
   unfolding read_call
@@ -225,5 +234,17 @@ module _ (area : ℕ) (track : List ℕ) (packs items numbers : ℕ) where
 
   pub read_accepts : ReadKept area track packs items numbers → read_call area track packs items numbers ≡ Accepted
   read_accepts m =
-      sym (read_blocks (lengths_kept_lem (length track) packs items numbers m.long))
+      sym (read_blocks m.long)
       ∙ none_found (λ (b : ℕ). block_fault area b (block_at track b)) 0 16 (λ k less. m.each k (omega arith))
+
+-- A call that a slice's length refuses leaves every slice.
+module _ (area frame : ℕ) where
+  pub makes_none : {packs items old old' track numbers : List ℕ} {a : TrackAnswer} → a ≡ Refused 30 0 → (Lengths (length old) (length packs) (length items) (length old') → ⊥)
+      → track ≡ old → numbers ≡ old' → Makes area frame packs items old old' a track numbers
+  makes_none {packs} {items} {old} {old'} e h t n =
+      record { answer = e ∙ make_lengths area packs (length items) (length old) (length old') h; track_left = rw e t; numbers_left = rw e n }
+
+  pub reads_none : {track old old' old'' packs items numbers : List ℕ} {a : TrackAnswer} → a ≡ Refused 30 0 → (Lengths (length track) (length old) (length old') (length old'') → ⊥)
+      → packs ≡ old → items ≡ old' → numbers ≡ old'' → Reads area frame track old old' old'' a packs items numbers
+  reads_none {track} {old} {old'} {old''} e h p i n =
+      record { answer = e ∙ read_lengths area track (length old) (length old') (length old'') h; packs_left = rw e p; items_left = rw e i; numbers_left = rw e n }

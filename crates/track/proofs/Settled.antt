@@ -4,8 +4,7 @@ use mathlib.Core.Path.{◌≡◌, sym, ap, ◌∙◌}
 use mathlib.Core.List.{List}
 use Prim.Native.Nat.{ℕ}
 use Rattle.answer.specs.Answer.{if_accepted}
-use Rattle.track.specs.declared.TrackAnswer.{TrackAnswer}
-use Rattle.track.specs.Answer.{Makes, Reads, told}
+use Rattle.track.specs.Answer.{TrackAnswer, Makes, Reads, told}
 
 -- What two equal answers leave in a slice.
 same_left : (a b : TrackAnswer) (new old x y : List ℕ) → a ≡ b → x ≡ if_accepted (told a) new old → y ≡ if_accepted (told b) new old → x ≡ y

@@ -19,10 +19,8 @@ use Rattle.items.proofs.Turns.{turns_same, turns_chunks, chunk_of_turns, length_
 use Rattle.block.specs.Block.{data_part_of, block_of, sw1_in, sw2_in, data_part_in}
 use Rattle.block.specs.Faults.{block_fault}
 use Rattle.block.proofs.OneBlock.{data_part_made, sw2_made_in, made_kept, Sound, sound, block_again}
-use Rattle.track.specs.declared.TrackAnswer.{TrackAnswer}
-use Rattle.track.specs.declared.TrackAnswer.TheVariants.{Accepted}
 use Rattle.track.specs.Blocks.{pack_in, places_in, track_of, block_at, packs_of, items_of, items_given_back}
-use Rattle.track.specs.Answer.{read_call, make_call, Makes, Reads, told}
+use Rattle.track.specs.Answer.{TrackAnswer, Accepted, read_call, make_call, Makes, Reads, told}
 use Rattle.track.proofs.BlockLaws.{length_places, length_block_at, length_data_part_at, blocks_wide}
 use Rattle.track.proofs.Judged.{MakeKept, ReadKept, make_kept, make_accepts, pack_right, read_kept, read_accepts, pack_is_kept}
 

@@ -1,16 +1,26 @@
 -- Change request 2026-01: what making and reading a track answer, and what they leave in each lent slice, for every input.
 -- Assumes nothing.
-use Rattle.std.specs.Prelude.{ℕ, zero, suc, ◌≡◌, List, Bool, cond, not, ◌&&◌, eqb, length}
+use Rattle.std.specs.Prelude.{ℕ, zero, suc, ◌≡◌, List, Bool, Result, Ok, Err, cond, not, ◌&&◌, eqb, length}
 use Rattle.answer.specs.Answer.{Told}
 use Rattle.answer.specs.Answer as answer
 use Rattle.answer.specs.Answer.{accepted, if_accepted}
+use Rattle.answer.specs.declared.Refused as refused
+use Rattle.answer.specs.Numbers.{track_number}
 use Rattle.header.specs.Header.{area_kept, pack_kept}
 use Rattle.items.specs.Items.{numbers_length, numbers_of}
 use Rattle.block.specs.Faults.{block_fault}
-use Rattle.track.specs.declared.TrackAnswer.{TrackAnswer}
-use Rattle.track.specs.declared.TrackAnswer.TheVariants.{Accepted, Refused}
 use Rattle.track.specs.Sizes.{block_count, track_length, packs_length, items_length}
 use Rattle.track.specs.Blocks.{pack_in, track_of, block_at, packs_of, items_of}
+
+-- What making and reading answer.
+pub data TrackAnswer : Type 0 where
+  Accepted : TrackAnswer
+  Refused : (refusal place : ℕ) → TrackAnswer
+
+-- The answer that a result of the code is.
+abbrev pub answer_of : {A : Type 0} → Result A refused.Refused → TrackAnswer
+answer_of (Ok done) = Accepted
+answer_of (Err e) = Refused (track_number e.refusal) e.place
 
 -- 30: the buffers are of their lengths.
 unfoldable pub lengths_kept : (track packs items numbers : ℕ) → Bool

@@ -1,61 +1,51 @@
 // The slices that an accepted call fills: the track block by block, and from a track its Pack IDs and its items.
-ghost use Rattle.std.specs.Prelude.{◌≡◌, ◌<◌, length};
-ghost use Rattle.track.specs.Sizes.{track_length, packs_length, items_length};
+ghost use Rattle.std.specs.Prelude.{◌≡◌, ◌<◌};
 ghost use Rattle.track.specs.Blocks.{track_of, packs_of, items_of};
 ghost use Rattle.track.specs.Bounds.{PacksKept};
 
 use crate::{Track, blocks};
+use header::Header;
 
 // All blocks of a track.
-pub(crate) fn put_track(track: &mut [u8], area: u32, packs: &[u8], items: &[u8])
-    requires track_len { (length track.old ≡ track_length) × ((length packs.now ≡ packs_length) × (length items.now ≡ items_length)) }
-    requires area_bound { (area < 16) × PacksKept packs.now }
+pub(crate) fn put_track(
+    track: &mut [u8; Track::LENGTH],
+    area: u32,
+    packs: &[u8; Track::PACKS_LENGTH],
+    items: &[u8; Track::ITEMS_LENGTH],
+)
+    requires area_bound { area < 16 }
+    requires pack_bounds { PacksKept packs.now }
     ensures { track.new ≡ track_of area packs.now items.now }
 {
-    let mut block: u8 = 0;
-    while block < Track::BLOCKS {
+    let (items, _) = items.as_chunks();
+    for block in 0..Track::BLOCKS {
+        let k = usize::from(block);
         let pack = blocks::pack_in(packs, block);
-        let from = Track::DATA_PART_LENGTH * (block as usize);
-        let to = from + Track::DATA_PART_LENGTH;
+        let from = Track::BLOCK_LENGTH * k;
         block::put_block(
-            track,
-            Track::BLOCK_LENGTH * (block as usize),
-            area,
-            pack,
-            block,
-            &items[from..to],
+            &mut track[from..from + Track::BLOCK_LENGTH],
+            Header { area, pack, block },
+            &items[k],
         );
-        block += 1;
     }
 }
 
-// The Pack IDs of a track's even blocks.
-pub(crate) fn put_packs(packs: &mut [u8], track: &[u8])
-    requires { (length packs.old ≡ packs_length) × (length track.now ≡ track_length) }
+// The Pack IDs of a track's even blocks. Written by index: proofs do not know what is written through `iter_mut().enumerate()`.
+pub(crate) fn put_packs(packs: &mut [u8; Track::PACKS_LENGTH], track: &[u8; Track::LENGTH])
     ensures { packs.new ≡ packs_of track.now }
 {
-    let mut k: usize = 0;
-    while k < Track::PACKS_LENGTH {
-        let sw2 = track[Track::BLOCK_LENGTH * (2 * k) + 1];
-        packs[k] = header::pack_of(sw2);
-        k += 1;
+    for k in 0..Track::PACKS_LENGTH {
+        packs[k] = header::pack_of(track[Track::BLOCK_LENGTH * (2 * k) + 1]);
     }
 }
 
 // What stands at the places of a track's blocks.
-pub(crate) fn put_items(items: &mut [u8], track: &[u8])
-    requires { (length items.old ≡ items_length) × (length track.now ≡ track_length) }
+pub(crate) fn put_items(items: &mut [u8; Track::ITEMS_LENGTH], track: &[u8; Track::LENGTH])
     ensures { items.new ≡ items_of track.now }
 {
-    let mut block: u8 = 0;
-    while block < Track::BLOCKS {
-        let from = Track::BLOCK_LENGTH * (block as usize) + 3;
-        let to = from + Track::DATA_PART_LENGTH;
-        numbers::bytes::put_bytes(
-            items,
-            Track::DATA_PART_LENGTH * (block as usize),
-            &track[from..to],
-        );
-        block += 1;
+    let (blocks, _) = track.as_chunks::<{ Track::BLOCK_LENGTH }>();
+    for (block, bytes) in blocks.iter().enumerate() {
+        let from = Track::DATA_PART_LENGTH * block;
+        items[from..from + Track::DATA_PART_LENGTH].copy_from_slice(&bytes[3..]);
     }
 }

@@ -5,25 +5,21 @@
 mod blocks;
 mod filling;
 
-ghost use Rattle.track.specs.Answer.{Makes, Reads};
+ghost use Rattle.track.specs.Answer.{Makes, Reads, answer_of};
+
+use answer::Refused;
+use answer::refusals::TrackRefusal;
 
 // A track: its blocks, and the lengths of what is lent for it.
-#[derive(Clone, Copy)]
+#[derive(Clone, Copy, Debug, PartialEq, Eq)]
 pub struct Track {}
-
-// What making and reading answer.
-#[derive(Clone, Copy)]
-pub enum TrackAnswer {
-    Accepted,
-    Refused { refusal: u32, place: u32 },
-}
 
 impl Track {
     pub const BLOCKS: u8 = 16;
 
-    pub const DATA_PART_LENGTH: usize = 32;
+    pub const DATA_PART_LENGTH: usize = block::DATA_PART_LENGTH;
 
-    pub const BLOCK_LENGTH: usize = 35;
+    pub const BLOCK_LENGTH: usize = block::LENGTH;
 
     pub const LENGTH: usize = 560;
 
@@ -31,7 +27,7 @@ impl Track {
 
     pub const ITEMS_LENGTH: usize = 512;
 
-    pub const NUMBERS_LENGTH: usize = 256;
+    pub const NUMBERS_LENGTH: usize = items::NUMBERS_LENGTH;
 
     // A track from its Area ID, Pack IDs and items, and the Item number of each place.
     pub fn make(
@@ -41,21 +37,25 @@ impl Track {
         items: &[u8],
         track: &mut [u8],
         numbers: &mut [u8],
-    ) -> TrackAnswer
-        ensures { Makes area frame packs.now items.now track.old numbers.old result track.new numbers.new }
+    ) -> Result<(), Refused<TrackRefusal>>
+        ensures { Makes area frame packs.now items.now track.old numbers.old (answer_of result) track.new numbers.new }
     {
-        let answer = blocks::judge_making(area, packs, items.len(), track.len(), numbers.len());
-        match answer {
-            TrackAnswer::Accepted => {
-                filling::put_track(track, area, packs, items);
-                items::put_numbers(numbers, area, frame);
-                answer
-            }
-            TrackAnswer::Refused {
-                refusal: _,
-                place: _,
-            } => answer,
-        }
+        let packs = packs
+            .as_array::<{ Self::PACKS_LENGTH }>()
+            .ok_or(TrackRefusal::Length)?;
+        let items = items
+            .as_array::<{ Self::ITEMS_LENGTH }>()
+            .ok_or(TrackRefusal::Length)?;
+        let track = track
+            .as_mut_array::<{ Self::LENGTH }>()
+            .ok_or(TrackRefusal::Length)?;
+        let numbers = numbers
+            .as_mut_array::<{ Self::NUMBERS_LENGTH }>()
+            .ok_or(TrackRefusal::Length)?;
+        blocks::judge_making(area, packs)?;
+        filling::put_track(track, area, packs, items);
+        items::put_numbers(numbers, area, frame);
+        Ok(())
     }
 
     // A track's Pack IDs and what stands at its places, and the Item number of each place.
@@ -66,21 +66,23 @@ impl Track {
         packs: &mut [u8],
         items: &mut [u8],
         numbers: &mut [u8],
-    ) -> TrackAnswer
-        ensures { Reads area frame track.now packs.old items.old numbers.old result packs.new items.new numbers.new }
+    ) -> Result<(), Refused<TrackRefusal>>
+        ensures { Reads area frame track.now packs.old items.old numbers.old (answer_of result) packs.new items.new numbers.new }
     {
-        let answer = blocks::judge_reading(area, track, packs.len(), items.len(), numbers.len());
-        match answer {
-            TrackAnswer::Accepted => {
-                filling::put_packs(packs, track);
-                filling::put_items(items, track);
-                items::put_numbers(numbers, area, frame);
-                answer
-            }
-            TrackAnswer::Refused {
-                refusal: _,
-                place: _,
-            } => answer,
-        }
+        let track = track.as_array::<{ Self::LENGTH }>().ok_or(TrackRefusal::Length)?;
+        let packs = packs
+            .as_mut_array::<{ Self::PACKS_LENGTH }>()
+            .ok_or(TrackRefusal::Length)?;
+        let items = items
+            .as_mut_array::<{ Self::ITEMS_LENGTH }>()
+            .ok_or(TrackRefusal::Length)?;
+        let numbers = numbers
+            .as_mut_array::<{ Self::NUMBERS_LENGTH }>()
+            .ok_or(TrackRefusal::Length)?;
+        blocks::judge_reading(area, track)?;
+        filling::put_packs(packs, track);
+        filling::put_items(items, track);
+        items::put_numbers(numbers, area, frame);
+        Ok(())
     }
 }

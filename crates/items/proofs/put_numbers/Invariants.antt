@@ -1,6 +1,6 @@
 -- `put_numbers` meets its contract: a place's number a turn. Assumes nothing.
 use mathlib.Core.List.{List}
-use Prim.Native.Nat.{ℕ, ◌-◌}
+use Prim.Native.Nat.{ℕ}
 use Rattle.numbers.specs.Numbers.{bytes_of}
 use Rattle.items.specs.Items.{item_number}
 use Rattle.items.proofs.Turns.{Filled}
@@ -12,6 +12,3 @@ told area frame place = bytes_of 4 (item_number area frame place)
 
 abbrev pub invariant-loop-place : goal.invariant-loop-place
 invariant-loop-place l = Filled (told l.area l.frame) 4 64 l.initial.numbers l.numbers l.place
-
-abbrev pub decreases-loop-place : goal.decreases-loop-place
-decreases-loop-place l = 64 - l.place

@@ -7,8 +7,8 @@ use borrow.Author.Rules.{rules}
 use Rattle.group.specs.Sizes.{entry_offset}
 use Rattle.group.specs.Entries.{entries_below}
 use Rattle.entry.specs.declared.Cursor.{Cursor}
-use Rattle.entry.specs.declared.ScanEnd.{ScanEnd}
-use Rattle.entry.specs.declared.ScanEnd.TheVariants.{Reached}
+use Rattle.entry.specs.ScanEnd.{ScanEnd}
+use Rattle.entry.specs.ScanEnd.{Reached}
 use Rattle.entry.specs.Scan.{scan, after, onward}
 use Rattle.entry.specs.Bounds.{Bounded}
 use Rattle.entry.proofs.Faults.{stays}

@@ -1,34 +1,24 @@
--- `Track::make` meets its contract: the judgement, and the track and the numbers where it accepts. Assumes nothing.
-use mathlib.Core.Path.{sym, ◌∙◌}
-use lib.ListN.{length}
+-- `Track::make` meets its contract: lengths, the judgement, and the track and the numbers where it accepts. Assumes nothing.
+use mathlib.Core.Path.{sym}
+use borrow.Author.Rules.{rules}
 use Rattle.header.proofs.TakenApart.{area_small}
-use Rattle.track.proofs.Judged.{MakeKept, make_kept, packs_small}
-use Rattle.track.proofs.Track.make.Goals.{In-Accepted}
+use Rattle.track.proofs.Judged.{make_kept, packs_small, makes_none}
 use Rattle.track.proofs.Track.make.Goals as goal
 
--- What the judgement has shown where it accepts.
-kept : (c : In-Accepted) → MakeKept c.args.area c.args.packs.now (length c.args.items.now) (length c.args.track.now) (length c.args.numbers.now)
-kept c = make_kept _ _ _ _ _ (sym c.judge_making-answer.ensures ∙ c.in-Accepted.is)
+pub returns-in_err-packs : goal.returns-in_err-packs
+returns-in_err-packs c = makes_none _ _ (search rules) (λ l. search rules) (search rules) (search rules)
 
-pub put_track-requires : goal.put_track-requires
-put_track-requires c =
-    let m = kept (goal.at.put_track-requires c).In-Accepted in
-    record { track_len = (m.long.track, (m.long.packs, m.long.items)); area_bound = (area_small _ m.allowed, packs_small _ _ _ _ _ m) }
+pub returns-in_err-items : goal.returns-in_err-items
+returns-in_err-items c = makes_none _ _ (search rules) (λ l. search rules) (search rules) (search rules)
 
-pub put_numbers-requires : goal.put_numbers-requires
-put_numbers-requires c = (kept (goal.at.put_numbers-requires c).In-Accepted).long.numbers
+pub returns-in_err-track : goal.returns-in_err-track
+returns-in_err-track c = makes_none _ _ (search rules) (λ l. search rules) (search rules) (search rules)
 
-pub returns-in-Accepted : goal.returns-in-Accepted
-returns-in-Accepted c =
-    record {
-      answer = c.judge_making-answer.ensures;
-      track_left = rw c.in-Accepted.is c.put_track.ensures;
-      numbers_left = rw c.in-Accepted.is c.put_numbers.ensures;
-    }
+pub returns-in_err-numbers : goal.returns-in_err-numbers
+returns-in_err-numbers c = makes_none _ _ (search rules) (λ l. search rules) (search rules) (search rules)
 
-pub returns-in-Refused : goal.returns-in-Refused
-returns-in-Refused c = record {
-  answer = c.judge_making-answer.ensures;
-  track_left = rw c.in-Refused.is;
-  numbers_left = rw c.in-Refused.is;
-}
+pub put_track-requires-clause-area_bound : goal.put_track-requires-clause-area_bound
+put_track-requires-clause-area_bound c = area_small _ (make_kept _ _ _ _ _ (sym c.in_ok-judge_making.ensures)).allowed
+
+pub put_track-requires-clause-pack_bounds : goal.put_track-requires-clause-pack_bounds
+put_track-requires-clause-pack_bounds c = packs_small _ _ _ _ _ (make_kept _ _ _ _ _ (sym c.in_ok-judge_making.ensures))

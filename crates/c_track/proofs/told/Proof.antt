@@ -1,7 +1,0 @@
--- `told` meets its contract, answer by answer. Assumes nothing.
-use borrow.Author.Rules.{rules}
-use Rattle.c_track.proofs.told.Statement.{statement}
-use Rattle.c_track.proofs.told.Tie as tie
-
-pub told_spec : {M : Type 1} → statement M
-told_spec = tie.close (tie.spec (λ c. search rules) (λ c. search rules) (λ c. search rules) (λ c. rw c.in-Refused.is))

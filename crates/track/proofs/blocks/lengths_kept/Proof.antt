@@ -1,9 +1,0 @@
--- `lengths_kept` meets its contract: the four tests. Assumes nothing.
-use Rattle.numbers.proofs.Tests.{tests}
-use Rattle.track.specs.Answer.{lengths_kept}
-use Rattle.track.proofs.blocks.lengths_kept.Statement.{statement}
-use Rattle.track.proofs.blocks.lengths_kept.Tie as tie
-
-pub lengths_kept_spec : {M : Type 1} → statement M
-unfolding lengths_kept
-lengths_kept_spec = tie.close (tie.spec (λ c. search tests) (λ c. search tests) (λ c. search tests) (λ c. search tests))
