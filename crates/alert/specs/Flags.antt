@@ -5,8 +5,8 @@ use Rattle.numbers.specs.Numbers.{number_at, bytes_of}
 use Rattle.answer.specs.Answer.{Told}
 use Rattle.answer.specs.Answer as answer
 use Rattle.answer.specs.Answer.{if_accepted}
-use Rattle.answer.specs.declared.Refusal.{Refusal}
-use Rattle.answer.specs.Refusals.{refusal_number}
+use Rattle.answer.specs.declared.refusals.LoaderRefusal.{LoaderRefusal}
+use Rattle.answer.specs.Numbers.{loader_number}
 use Rattle.alert.specs.declared.Counted as code
 
 -- What making and reading answer: what is counted, with flags 1 to 32 and 33 to 64, or the number of the refusal.
@@ -15,9 +15,9 @@ pub data AlertAnswer : Type 0 where
   Refused : (refusal : ℕ) → AlertAnswer
 
 -- What a result of the code answers.
-abbrev pub answered : Result code.Counted Refusal → AlertAnswer
+abbrev pub answered : Result code.Counted LoaderRefusal → AlertAnswer
 answered (Ok c) = Counted c.raised c.lowest c.high c.low
-answered (Err refusal) = Refused (refusal_number refusal)
+answered (Err refusal) = Refused (loader_number refusal)
 
 -- 18.3.10, table 24: "Tape Alert Flags 8"
 abbrev pub alert_length : ℕ

@@ -7,7 +7,7 @@ mod flags;
 ghost use Rattle.std.specs.Prelude.{◌≡◌};
 ghost use Rattle.alert.specs.Flags.{Makes, answered, read_call};
 
-use answer::Refusal;
+use answer::refusals::LoaderRefusal;
 
 // The Tape Alert flags: the length of their bytes.
 #[derive(Clone, Copy, Debug, PartialEq, Eq)]
@@ -26,11 +26,11 @@ impl Alert {
     pub const LENGTH: usize = 8;
 
     // The eight bytes from flags 1 to 32 and flags 33 to 64.
-    pub fn make(high: u32, low: u32, alert: &mut [u8]) -> Result<Counted, Refusal>
+    pub fn make(high: u32, low: u32, alert: &mut [u8]) -> Result<Counted, LoaderRefusal>
         ensures { Makes high low alert.old (answered result) alert.new }
     {
         if alert.len() != Self::LENGTH {
-            return Err(Refusal::AitLength);
+            return Err(LoaderRefusal::Length);
         }
         numbers::put_number(alert, 0, high);
         numbers::put_number(alert, 4, low);
@@ -38,11 +38,11 @@ impl Alert {
     }
 
     // The flags of eight bytes.
-    pub fn read(alert: &[u8]) -> Result<Counted, Refusal>
+    pub fn read(alert: &[u8]) -> Result<Counted, LoaderRefusal>
         ensures { answered result ≡ read_call alert.now }
     {
         if alert.len() != Self::LENGTH {
-            return Err(Refusal::AitLength);
+            return Err(LoaderRefusal::Length);
         }
         let high = numbers::number_at(alert, 0);
         let low = numbers::number_at(alert, 4);

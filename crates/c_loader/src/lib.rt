@@ -3,7 +3,8 @@
 #![tactic(auto)]
 
 ghost use Rattle.std.specs.Prelude.{◌≡◌, [], ◌∷◌};
-ghost use Rattle.answer.specs.Refusals.{told_of};
+ghost use Rattle.answer.specs.Numbers.{loader_number};
+ghost use Rattle.answer.specs.Results.{told_of};
 ghost use Rattle.volume.specs.Information.{answered, told};
 ghost use Rattle.alert.specs.Flags as flags;
 ghost use Rattle.radio.specs.Search as radio;
@@ -11,13 +12,14 @@ ghost use Rattle.slices.specs.Call.{left};
 ghost use Rattle.c_loader.specs.Calls.{dds_volume_make, dds_volume_read, dds_alert_make, dds_alert_read, dds_radio_find};
 
 use alert::{Alert, Counted};
-use answer::{Outcome, Refusal, Told};
+use answer::refusals::LoaderRefusal;
+use answer::{Outcome, Told};
 use radio::{Found, Radio};
 use volume::{TapeType, Volume};
 
 // What a call on Volume Information tells of its answer.
-fn volume_told(done: Result<TapeType, Refusal>) -> Told
-    ensures { told_of result ≡ told (answered done) }
+fn volume_told(done: Result<TapeType, LoaderRefusal>) -> Told<LoaderRefusal>
+    ensures { told_of loader_number result ≡ told (answered done) }
 {
     let outcome = match done? {
         TapeType::A => 0,
@@ -30,8 +32,8 @@ fn volume_told(done: Result<TapeType, Refusal>) -> Told
 }
 
 // What a call on the flags tells of its answer.
-fn alert_told(done: Result<Counted, Refusal>) -> Told
-    ensures { told_of result ≡ flags.told (flags.answered done) }
+fn alert_told(done: Result<Counted, LoaderRefusal>) -> Told<LoaderRefusal>
+    ensures { told_of loader_number result ≡ flags.told (flags.answered done) }
 {
     let Counted {
         raised,
@@ -48,8 +50,8 @@ fn alert_told(done: Result<Counted, Refusal>) -> Told
 }
 
 // What a search tells of its answer.
-fn radio_told(done: Result<Option<Found>, Refusal>) -> Told
-    ensures { told_of result ≡ radio.told (radio.answered done) }
+fn radio_told(done: Result<Option<Found>, LoaderRefusal>) -> Told<LoaderRefusal>
+    ensures { told_of loader_number result ≡ radio.told (radio.answered done) }
 {
     Ok(match done? {
         Some(Found { place, length_at }) => Outcome {

@@ -4,8 +4,8 @@ use Rattle.std.specs.Prelude.{ℕ, zero, suc, ◌+◌, ◌-◌, ◌≤◌, ◌<�
 use Rattle.answer.specs.Answer.{Told}
 use Rattle.answer.specs.Answer as answer
 use Rattle.answer.specs.Answer.{accepted}
-use Rattle.answer.specs.declared.Refusal.{Refusal}
-use Rattle.answer.specs.Refusals.{refusal_number}
+use Rattle.answer.specs.declared.refusals.LoaderRefusal.{LoaderRefusal}
+use Rattle.answer.specs.Numbers.{loader_number}
 use Rattle.radio.specs.declared.Found as code
 
 -- What a search answers: the place of the pattern's first byte and of the length byte behind it, that there is none, or the number of
@@ -16,10 +16,10 @@ pub data RadioAnswer : Type 0 where
   Refused : (refusal : ℕ) → RadioAnswer
 
 -- What a result of the code answers.
-abbrev pub answered : Result (Option code.Found) Refusal → RadioAnswer
+abbrev pub answered : Result (Option code.Found) LoaderRefusal → RadioAnswer
 answered (Ok (Some f)) = Found f.place f.length_at
 answered (Ok None) = Nothing
-answered (Err refusal) = Refused (refusal_number refusal)
+answered (Err refusal) = Refused (loader_number refusal)
 
 -- 18.7: "a minimum of two bytes of Logic 0 followed by the synchronous pattern (00)(B2)(4D)"
 abbrev pub start : List ℕ

@@ -7,7 +7,7 @@ mod search;
 ghost use Rattle.std.specs.Prelude.{◌≡◌};
 ghost use Rattle.radio.specs.Search.{answered, find_call};
 
-use answer::Refusal;
+use answer::refusals::LoaderRefusal;
 
 // Bytes received by radio.
 #[derive(Clone, Copy, Debug, PartialEq, Eq)]
@@ -24,11 +24,11 @@ impl Radio {
     pub const LONGEST: usize = 4294967295;
 
     // The first place where a message begins: the pattern 00 B2 4D behind two zero bytes, and a length byte behind it.
-    pub fn find(received: &[u8]) -> Result<Option<Found>, Refusal>
+    pub fn find(received: &[u8]) -> Result<Option<Found>, LoaderRefusal>
         ensures { answered result ≡ find_call received.now }
     {
         if received.len() > Self::LONGEST {
-            return Err(Refusal::AitLength);
+            return Err(LoaderRefusal::Length);
         }
         for place in 2..received.len().saturating_sub(3) {
             if search::begins(&received[place - 2..place + 4]) {

@@ -15,9 +15,9 @@ use Rattle.numbers.specs.Store.{put, zeros}
 use Rattle.numbers.proofs.Stores.{put_put, put_whole, take_rest, zeros_are}
 use Rattle.numbers.proofs.Tests.{both, passed}
 use Rattle.std.specs.Prelude.{Err}
-use Rattle.answer.specs.declared.Refusal.{Refusal}
-use Rattle.answer.specs.Refusals.{refusal_number}
-use Rattle.answer.proofs.RefusalLaws.{not_zero}
+use Rattle.answer.specs.declared.refusals.LoaderRefusal.{LoaderRefusal}
+use Rattle.answer.specs.Numbers.{loader_number}
+use Rattle.answer.specs.NotZero.{loader_not_zero}
 use Rattle.volume.specs.Information.{VolumeAnswer, answered}
 use Rattle.volume.specs.Information.{TypeA, TypeB, Refused}
 use Rattle.volume.specs.Information.{volume_length, fields_length, length_and_thickness, flags, volume_of, fields_of, lengths_kept, reserved_kept, thickness, thickness_kept}
@@ -98,9 +98,9 @@ read_kept volume fields e =
     record { long = lengths fields (length volume) (not-false _ p.0); before = r.0; behind = r.1; bytes = q.1 }
 
 -- What a call answers and leaves, where it refuses and where it does not.
-pub refused_answer : (r : Refusal) (refusal : ℕ) (fields : List ℕ) → refusal_number r ≡ refusal → answered (Err r) ≡ answer_of refusal fields
+pub refused_answer : (r : LoaderRefusal) (refusal : ℕ) (fields : List ℕ) → loader_number r ≡ refusal → answered (Err r) ≡ answer_of refusal fields
 unfolding answer_of
-refused_answer r refusal fields e = rw (← e, not_zero r)
+refused_answer r refusal fields e = rw (← e, loader_not_zero r)
 
 pub accepted_answer : (refusal : ℕ) (fields : List ℕ) (a : VolumeAnswer) → 0 ≡ refusal → a ≡ type_of (length_and_thickness fields) → a ≡ answer_of refusal fields
 unfolding answer_of

@@ -5,8 +5,8 @@ use Rattle.numbers.specs.Store.{zeros}
 use Rattle.answer.specs.Answer.{Told}
 use Rattle.answer.specs.Answer as answer
 use Rattle.answer.specs.Answer.{refusal_told, if_accepted}
-use Rattle.answer.specs.declared.Refusal.{Refusal}
-use Rattle.answer.specs.Refusals.{refusal_number}
+use Rattle.answer.specs.declared.refusals.LoaderRefusal.{LoaderRefusal}
+use Rattle.answer.specs.Numbers.{loader_number}
 use Rattle.volume.specs.declared.TapeType.{TapeType}
 use Rattle.volume.specs.declared.TapeType.TheVariants as tape
 
@@ -17,10 +17,10 @@ pub data VolumeAnswer : Type 0 where
   Refused : (refusal : ℕ) → VolumeAnswer
 
 -- What a result of the code answers.
-abbrev pub answered : Result TapeType Refusal → VolumeAnswer
+abbrev pub answered : Result TapeType LoaderRefusal → VolumeAnswer
 answered (Ok tape.A) = TypeA
 answered (Ok tape.B) = TypeB
-answered (Err refusal) = Refused (refusal_number refusal)
+answered (Err refusal) = Refused (loader_number refusal)
 
 -- 16.4.2.2: "This 72-byte field"
 abbrev pub volume_length : ℕ

@@ -1,11 +1,12 @@
 // Volume Information: what making and reading it refuse, its bytes from its fields and its fields from its bytes.
 ghost use Rattle.std.specs.Prelude.{◌≡◌, length};
 ghost use Rattle.std.specs.Prelude.{Ok};
-ghost use Rattle.answer.specs.Refusals.{number_of};
+ghost use Rattle.answer.specs.Numbers.{loader_number};
+ghost use Rattle.answer.specs.Results.{number_of};
 ghost use Rattle.volume.specs.Information.{answered, volume_length, fields_length, volume_of, fields_of, type_of, thickness, flags_kept, byte_refusal, make_refusal, read_refusal};
 
 use crate::{TapeType, Volume};
-use answer::Refusal;
+use answer::refusals::LoaderRefusal;
 use numbers::bytes;
 
 // The thickness number: the two top bits of the byte, whose others are the length number.
@@ -24,41 +25,41 @@ fn flags_kept(flags: u8) -> bool
 
 // What the two bytes that have a rule refuse.
 #[tactic(auto, unfolding(crate::specs::Information::byte_refusal), using(numbers::proofs::Tests::tests))]
-fn byte_refusal(byte: u8, flags: u8) -> Result<(), Refusal>
-    ensures { number_of result ≡ byte_refusal byte flags }
+fn byte_refusal(byte: u8, flags: u8) -> Result<(), LoaderRefusal>
+    ensures { number_of loader_number result ≡ byte_refusal byte flags }
 {
     if thickness_of(byte) > 1 {
-        return Err(Refusal::Thickness);
+        return Err(LoaderRefusal::Thickness);
     }
     if !flags_kept(flags) {
-        return Err(Refusal::Flags);
+        return Err(LoaderRefusal::Flags);
     }
     Ok(())
 }
 
 // What making refuses.
 #[tactic(auto, unfolding(crate::specs::Information::make_refusal), using(numbers::proofs::Tests::tests))]
-pub(crate) fn make_refusal(fields: &[u8], volume: usize) -> Result<(), Refusal>
-    ensures { number_of result ≡ make_refusal fields.now volume }
+pub(crate) fn make_refusal(fields: &[u8], volume: usize) -> Result<(), LoaderRefusal>
+    ensures { number_of loader_number result ≡ make_refusal fields.now volume }
 {
     if fields.len() != Volume::FIELDS_LENGTH || volume != Volume::LENGTH {
-        return Err(Refusal::AitLength);
+        return Err(LoaderRefusal::Length);
     }
     byte_refusal(fields[2], fields[3])
 }
 
 // What reading refuses.
 #[tactic(auto, unfolding(crate::specs::Information::read_refusal), using(numbers::proofs::Tests::tests))]
-pub(crate) fn read_refusal(volume: &[u8], fields: usize) -> Result<(), Refusal>
-    ensures { number_of result ≡ read_refusal volume.now fields }
+pub(crate) fn read_refusal(volume: &[u8], fields: usize) -> Result<(), LoaderRefusal>
+    ensures { number_of loader_number result ≡ read_refusal volume.now fields }
 {
     if fields != Volume::FIELDS_LENGTH || volume.len() != Volume::LENGTH {
-        return Err(Refusal::AitLength);
+        return Err(LoaderRefusal::Length);
     }
     let before = &volume[..Volume::FIELDS_BEGIN];
     let behind = &volume[Volume::FIELDS_END..];
     if !bytes::are_zeros(before) || !bytes::are_zeros(behind) {
-        return Err(Refusal::Reserved);
+        return Err(LoaderRefusal::Reserved);
     }
     byte_refusal(volume[5], volume[6])
 }

@@ -6,7 +6,7 @@ mod information;
 
 ghost use Rattle.volume.specs.Information.{Makes, Reads, answered};
 
-use answer::Refusal;
+use answer::refusals::LoaderRefusal;
 
 // Volume Information: its length, the length of its fields, and where they begin and end in it.
 #[derive(Clone, Copy, Debug, PartialEq, Eq)]
@@ -29,7 +29,7 @@ impl Volume {
     pub const FIELDS_END: usize = 40;
 
     // Volume Information from its fields.
-    pub fn make(fields: &[u8], volume: &mut [u8]) -> Result<TapeType, Refusal>
+    pub fn make(fields: &[u8], volume: &mut [u8]) -> Result<TapeType, LoaderRefusal>
         ensures { Makes fields.now volume.old (answered result) volume.new }
     {
         information::make_refusal(fields, volume.len())?;
@@ -38,7 +38,7 @@ impl Volume {
     }
 
     // The fields of Volume Information.
-    pub fn read(volume: &[u8], fields: &mut [u8]) -> Result<TapeType, Refusal>
+    pub fn read(volume: &[u8], fields: &mut [u8]) -> Result<TapeType, LoaderRefusal>
         ensures { Reads volume.now fields.old (answered result) fields.new }
     {
         information::read_refusal(volume, fields.len())?;
