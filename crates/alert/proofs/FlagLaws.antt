@@ -19,8 +19,8 @@ use Rattle.numbers.specs.Numbers.{number_at, bytes_of, Bytes}
 use Rattle.numbers.proofs.NumberLaws.{length_bytes, number_from, number_of_bytes, bytes_of_number}
 use Rattle.numbers.specs.Store.{put}
 use Rattle.numbers.proofs.Stores.{put_put, put_whole}
-use Rattle.alert.specs.declared.AlertAnswer.{AlertAnswer}
-use Rattle.alert.specs.declared.AlertAnswer.TheVariants.{Refused}
+use Rattle.alert.specs.Flags.{AlertAnswer}
+use Rattle.alert.specs.Flags.{Refused}
 use Rattle.alert.specs.Flags.{Makes, make_call, read_call, counted_in, Says, byte_of, bit_of, raised, raised_from, count_from, lowest_from, raised_count, lowest_raised, alert_of}
 
 -- All 64 flags as one number.

@@ -4,7 +4,7 @@ use mathlib.Core.Path.{◌≡◌, sym, ap, ◌∙◌}
 use mathlib.Core.List.{List}
 use Prim.Native.Nat.{ℕ}
 use Rattle.answer.specs.Answer.{if_accepted}
-use Rattle.alert.specs.declared.AlertAnswer.{AlertAnswer}
+use Rattle.alert.specs.Flags.{AlertAnswer}
 use Rattle.alert.specs.Flags.{alert_of, Makes, read_call, told}
 
 pub alert_make_settled : (high low : ℕ) (old : List ℕ) (a b : AlertAnswer) (alert alert' : List ℕ)

@@ -10,8 +10,8 @@ use lib.Dec.{eqb}
 use lib.ListN.{length}
 use Rattle.answer.specs.Answer.{if_accepted}
 use Rattle.numbers.specs.Numbers.{number_at}
-use Rattle.alert.specs.declared.AlertAnswer.{AlertAnswer}
-use Rattle.alert.specs.declared.AlertAnswer.TheVariants.{Counted, Refused}
+use Rattle.alert.specs.Flags.{AlertAnswer}
+use Rattle.alert.specs.Flags.{Counted, Refused}
 use Rattle.alert.specs.Flags.{raised_count, lowest_raised, Says, alert_of, counted_in, make_call, read_call, Makes, told}
 use Rattle.alert.proofs.FlagLaws.{counted_so, high_made, low_made, length_alert}
 

@@ -1,12 +1,23 @@
 -- Source document 001, 18.3.10: the eight bytes of Tape Alert flags, flag by flag, and what making and reading them answer.
 -- Assumes nothing.
-use Rattle.std.specs.Prelude.{ℕ, zero, suc, ◌+◌, ◌-◌, ◌/◌, ◌%◌, ◌^◌, ◌≤◌, ◌<◌, ◌≡◌, List, [], ◌∷◌, ◌++◌, Bool, true, false, cond, eqb, length, get_or}
+use Rattle.std.specs.Prelude.{ℕ, zero, suc, ◌+◌, ◌-◌, ◌/◌, ◌%◌, ◌^◌, ◌≤◌, ◌<◌, ◌≡◌, List, [], ◌∷◌, ◌++◌, Bool, true, false, cond, eqb, length, get_or, Result, Ok, Err}
 use Rattle.numbers.specs.Numbers.{number_at, bytes_of}
 use Rattle.answer.specs.Answer.{Told}
 use Rattle.answer.specs.Answer as answer
 use Rattle.answer.specs.Answer.{if_accepted}
-use Rattle.alert.specs.declared.AlertAnswer.{AlertAnswer}
-use Rattle.alert.specs.declared.AlertAnswer.TheVariants.{Counted, Refused}
+use Rattle.answer.specs.declared.refusals.LoaderRefusal.{LoaderRefusal}
+use Rattle.answer.specs.Numbers.{loader_number}
+use Rattle.alert.specs.declared.Counted as code
+
+-- What making and reading answer: what is counted, with flags 1 to 32 and 33 to 64, or the number of the refusal.
+pub data AlertAnswer : Type 0 where
+  Counted : (raised lowest high low : ℕ) → AlertAnswer
+  Refused : (refusal : ℕ) → AlertAnswer
+
+-- What a result of the code answers.
+abbrev pub answered : Result code.Counted LoaderRefusal → AlertAnswer
+answered (Ok c) = Counted c.raised c.lowest c.high c.low
+answered (Err refusal) = Refused (loader_number refusal)
 
 -- 18.3.10, table 24: "Tape Alert Flags 8"
 abbrev pub alert_length : ℕ

@@ -1,21 +1,21 @@
 // The Tape Alert flags, counted: all 64 as one word, flag 1 in its top bit.
-ghost use Rattle.std.specs.Prelude.{◌≡◌, ◌+◌, ◌*◌};
-ghost use Rattle.alert.specs.Flags.{alert_of, counted_in, raised_count, lowest_raised};
+ghost use Rattle.std.specs.Prelude.{◌≡◌, ◌+◌, ◌*◌, Ok};
+ghost use Rattle.alert.specs.Flags.{alert_of, answered, counted_in, raised_count, lowest_raised};
 
-use crate::AlertAnswer;
+use crate::Counted;
 
 // Flags 1 to 32 above flags 33 to 64.
 fn word_of(high: u32, low: u32) -> u64
     ensures { result ≡ high * 4294967296 + low }
 {
-    (high as u64) * 4294967296 + (low as u64)
+    u64::from(high) * 4294967296 + u64::from(low)
 }
 
 // How many flags are raised.
 fn raised_in(high: u32, low: u32) -> u32
     ensures { result ≡ raised_count (alert_of high low) }
 {
-    u64::count_ones(word_of(high, low))
+    word_of(high, low).count_ones()
 }
 
 // The lowest raised flag, 0 for none: one more than the flags that are not raised before it.
@@ -24,16 +24,17 @@ fn lowest_in(high: u32, low: u32) -> u32
 {
     let word = word_of(high, low);
     if word == 0 {
-        return 0;
+        0
+    } else {
+        word.leading_zeros() + 1
     }
-    u64::leading_zeros(word) + 1
 }
 
 // What both calls answer of these flags.
-pub(crate) fn counted(high: u32, low: u32) -> AlertAnswer
-    ensures { result ≡ counted_in (alert_of high low) high low }
+pub(crate) fn counted(high: u32, low: u32) -> Counted
+    ensures { answered (Ok result) ≡ counted_in (alert_of high low) high low }
 {
-    AlertAnswer::Counted {
+    Counted {
         raised: raised_in(high, low),
         lowest: lowest_in(high, low),
         high,

@@ -5,48 +5,47 @@
 mod flags;
 
 ghost use Rattle.std.specs.Prelude.{◌≡◌};
-ghost use Rattle.alert.specs.Flags.{Makes, read_call};
+ghost use Rattle.alert.specs.Flags.{Makes, answered, read_call};
+
+use answer::refusals::LoaderRefusal;
 
 // The Tape Alert flags: the length of their bytes.
-#[derive(Clone, Copy)]
+#[derive(Clone, Copy, Debug, PartialEq, Eq)]
 pub struct Alert {}
 
 // What making and reading the flags answer: how many are raised, the lowest raised (0 for none), flags 1 to 32 and 33 to 64.
-#[derive(Clone, Copy)]
-pub enum AlertAnswer {
-    Counted {
-        raised: u32,
-        lowest: u32,
-        high: u32,
-        low: u32,
-    },
-    Refused(u32),
+#[derive(Clone, Copy, Debug, PartialEq, Eq)]
+pub struct Counted {
+    pub raised: u32,
+    pub lowest: u32,
+    pub high: u32,
+    pub low: u32,
 }
 
 impl Alert {
     pub const LENGTH: usize = 8;
 
     // The eight bytes from flags 1 to 32 and flags 33 to 64.
-    pub fn make(high: u32, low: u32, alert: &mut [u8]) -> AlertAnswer
-        ensures { Makes high low alert.old result alert.new }
+    pub fn make(high: u32, low: u32, alert: &mut [u8]) -> Result<Counted, LoaderRefusal>
+        ensures { Makes high low alert.old (answered result) alert.new }
     {
-        if alert.len() != Alert::LENGTH {
-            return AlertAnswer::Refused(60);
+        if alert.len() != Self::LENGTH {
+            return Err(LoaderRefusal::Length);
         }
         numbers::put_number(alert, 0, high);
         numbers::put_number(alert, 4, low);
-        flags::counted(high, low)
+        Ok(flags::counted(high, low))
     }
 
     // The flags of eight bytes.
-    pub fn read(alert: &[u8]) -> AlertAnswer
-        ensures { result ≡ read_call alert.now }
+    pub fn read(alert: &[u8]) -> Result<Counted, LoaderRefusal>
+        ensures { answered result ≡ read_call alert.now }
     {
-        if alert.len() != Alert::LENGTH {
-            return AlertAnswer::Refused(60);
+        if alert.len() != Self::LENGTH {
+            return Err(LoaderRefusal::Length);
         }
         let high = numbers::number_at(alert, 0);
         let low = numbers::number_at(alert, 4);
-        flags::counted(high, low)
+        Ok(flags::counted(high, low))
     }
 }

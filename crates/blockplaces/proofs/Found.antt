@@ -22,16 +22,15 @@ use Rattle.layout.specs.Items.{Piece}
 use Rattle.layout.specs.Items.Piece.{a_total, a_separator, a_middle, a_start, a_last, an_entire}
 use Rattle.layout.specs.Layout.{kind_of, count_of, data_of, user_data, b4_after, plain_left, entries_of}
 use Rattle.layout.proofs.Decode.{data_after, length_entries}
-use Rattle.seek.specs.declared.Beginning.{Beginning}
-use Rattle.seek.specs.declared.Beginning.TheVariants.{At, Elsewhere}
+use Rattle.std.specs.Prelude.{Option, Some, None}
 use Rattle.seek.specs.Find.{begins, beginning, find_call}
 use Rattle.blockplaces.specs.Places.{begins_block, begun, BeginsAt}
 
 -- Where the b-th block, counted from 0, of pieces begins, after so many bytes.
-unfoldable pub placed : ℕ → List Piece → ℕ → Beginning
-placed reached [] b = Elsewhere
+unfoldable pub placed : ℕ → List Piece → ℕ → Option ℕ
+placed reached [] b = None
 placed reached (p ∷ ps) b =
-    cond (begins_block p) (cond (eqb b 0) (At reached) (placed (reached + length (data_of p)) ps (b - 1)))
+    cond (begins_block p) (cond (eqb b 0) (Some reached) (placed (reached + length (data_of p)) ps (b - 1)))
     (placed (reached + length (data_of p)) ps b)
 
 -- A row's first two numbers.
@@ -51,7 +50,7 @@ module _ (pre ns : List ℕ) (kind offset count at : ℕ) (here : length pre ≡
   -- One row.
   turn : (left b : ℕ) → kind < 256 ^ 4 → offset < 256 ^ 4 →
       beginning (pre ++ in_bytes (kind ∷ offset ∷ count ∷ ns)) at (suc left) b
-      ≡ cond (begins kind) (cond (eqb b 0) (At offset) (beginning (pre ++ in_bytes (kind ∷ offset ∷ count ∷ ns)) (at + 12) left (b - 1)))
+      ≡ cond (begins kind) (cond (eqb b 0) (Some offset) (beginning (pre ++ in_bytes (kind ∷ offset ∷ count ∷ ns)) (at + 12) left (b - 1)))
       (beginning (pre ++ in_bytes (kind ∷ offset ∷ count ∷ ns)) (at + 12) left b)
   unfolding beginning
   turn left b k o = rw (first_is k, second_is o)
@@ -85,7 +84,7 @@ kind_small (a_start bs) = omega arith
 kind_small (a_last bs) = omega arith
 kind_small (an_entire bs) = omega arith
 
-none_left : (rows : List ℕ) (at b : ℕ) → beginning rows at 0 b ≡ Elsewhere
+none_left : (rows : List ℕ) (at b : ℕ) → beginning rows at 0 b ≡ None
 unfolding beginning
 none_left rows at b = refl
 
@@ -111,7 +110,7 @@ by_rows pre (p ∷ ps) plain over reached at b here small =
 
 -- What find answers of a group's rows, by its pieces.
 pub found_is : (ps : List Piece) (plain over before b : ℕ) → length (user_data ps) ≤ 16777215 →
-    find_call (in_bytes (rows_from 0 (entries_of plain over ps))) before b ≡ cond (ltb b before) Elsewhere (placed 0 ps (b - before))
+    find_call (in_bytes (rows_from 0 (entries_of plain over ps))) before b ≡ cond (ltb b before) None (placed 0 ps (b - before))
 unfolding find_call
 found_is ps plain over before b small =
     let rows : List ℕ = in_bytes (rows_from 0 (entries_of plain over ps)) in
@@ -143,20 +142,20 @@ behind reached p ps b c offset e r =
       told = omega (arith, r.told, length-append (data_of p) (user_data r.left));
     }
 
-pub at_same : {x y : ℕ} → At x ≡ At y → x ≡ y
+pub at_same : {x y : ℕ} → Some x ≡ Some y → x ≡ y
 at_same h = cc
 
-apart : {x : ℕ} → Elsewhere ≡ At x → ⊥
+apart : {x : ℕ} → None ≡ Some x → ⊥
 apart h = let z : ◌≡◌ {A = ℕ} 0 1 = cc in absurd (omega arith)
 
-begins_there : (reached : ℕ) (ps : List Piece) (b offset : ℕ) → placed reached ps b ≡ At offset → Begins reached ps b offset
+begins_there : (reached : ℕ) (ps : List Piece) (b offset : ℕ) → placed reached ps b ≡ Some offset → Begins reached ps b offset
 unfolding placed begun user_data
 begins_there reached [] b offset e = absurd (apart e)
 begins_there reached (p ∷ ps) b offset e = by (λ c. begins_there (reached + length (data_of p)) ps c offset) (begins_block p) refl (eqb b 0) refl e
   where
-    by : ((c : ℕ) → placed (reached + length (data_of p)) ps c ≡ At offset → Begins (reached + length (data_of p)) ps c offset) →
+    by : ((c : ℕ) → placed (reached + length (data_of p)) ps c ≡ Some offset → Begins (reached + length (data_of p)) ps c offset) →
         (x : Bool) → begins_block p ≡ x → (y : Bool) → eqb b 0 ≡ y →
-        cond x (cond y (At reached) (placed (reached + length (data_of p)) ps (b - 1))) (placed (reached + length (data_of p)) ps b) ≡ At offset → Begins reached (p ∷ ps) b offset
+        cond x (cond y (Some reached) (placed (reached + length (data_of p)) ps (b - 1))) (placed (reached + length (data_of p)) ps b) ≡ Some offset → Begins reached (p ∷ ps) b offset
     by more true x true y h =
         record { left = []; first = p; right = ps; stands = refl; begins = x; counted = eqb-true b 0 y; told = omega (arith, at_same h) }
     by more true x false y h =
@@ -165,30 +164,30 @@ begins_there reached (p ∷ ps) b offset e = by (λ c. begins_there (reached + l
     by more false x y z h = behind reached p ps b b offset (rw x) (more b h)
 
 there_begins : (reached : ℕ) (left : List Piece) (first : Piece) (right : List Piece) → begins_block first ≡ true →
-    placed reached (left ++ (first ∷ right)) (begun left) ≡ At (reached + length (user_data left))
+    placed reached (left ++ (first ∷ right)) (begun left) ≡ Some (reached + length (user_data left))
 unfolding placed begun user_data
-there_begins reached [] first right h = rw h (ap At (omega arith))
-there_begins reached (p ∷ left) first right h = by (there_begins (reached + length (data_of p)) left first right h ∙ ap At adds) (begins_block p)
+there_begins reached [] first right h = rw h (ap Some (omega arith))
+there_begins reached (p ∷ left) first right h = by (there_begins (reached + length (data_of p)) left first right h ∙ ap Some adds) (begins_block p)
   where
     adds : reached + length (data_of p) + length (user_data left) ≡ reached + length (data_of p ++ user_data left)
     adds = omega (arith, length-append (data_of p) (user_data left))
 
-    by : placed (reached + length (data_of p)) (left ++ (first ∷ right)) (begun left) ≡ At (reached + length (data_of p ++ user_data left)) → (x : Bool) →
-        cond x (cond (eqb (cond x (suc (begun left)) (begun left)) 0) (At reached) (placed (reached + length (data_of p)) (left ++ (first ∷ right)) (cond x (suc (begun left)) (begun left) - 1)))
-        (placed (reached + length (data_of p)) (left ++ (first ∷ right)) (cond x (suc (begun left)) (begun left))) ≡ At (reached + length (data_of p ++ user_data left))
+    by : placed (reached + length (data_of p)) (left ++ (first ∷ right)) (begun left) ≡ Some (reached + length (data_of p ++ user_data left)) → (x : Bool) →
+        cond x (cond (eqb (cond x (suc (begun left)) (begun left)) 0) (Some reached) (placed (reached + length (data_of p)) (left ++ (first ∷ right)) (cond x (suc (begun left)) (begun left) - 1)))
+        (placed (reached + length (data_of p)) (left ++ (first ∷ right)) (cond x (suc (begun left)) (begun left))) ≡ Some (reached + length (data_of p ++ user_data left))
     by rest true =
         let less : suc (begun left) - 1 ≡ begun left = omega arith in
         rw (ne_eqb (suc (begun left)) 0 (λ z. omega arith), less) rest
     by rest false = rest
 
 -- The answer of find, both ways.
-abbrev answer_of : List Piece → ℕ → ℕ → Beginning
-answer_of ps before b = cond (ltb b before) Elsewhere (placed 0 ps (b - before))
+abbrev answer_of : List Piece → ℕ → ℕ → Option ℕ
+answer_of ps before b = cond (ltb b before) None (placed 0 ps (b - before))
 
-pub answered_at : (ps : List Piece) (before b offset : ℕ) → answer_of ps before b ≡ At offset → BeginsAt ps before b offset
+pub answered_at : (ps : List Piece) (before b offset : ℕ) → answer_of ps before b ≡ Some offset → BeginsAt ps before b offset
 answered_at ps before b offset e = by (ltb b before) refl e
   where
-    by : (x : Bool) → ltb b before ≡ x → cond x Elsewhere (placed 0 ps (b - before)) ≡ At offset → BeginsAt ps before b offset
+    by : (x : Bool) → ltb b before ≡ x → cond x None (placed 0 ps (b - before)) ≡ Some offset → BeginsAt ps before b offset
     by true x h = absurd (apart h)
     by false x h =
         let r = begins_there 0 ps (b - before) offset h in
@@ -202,17 +201,17 @@ answered_at ps before b offset e = by (ltb b before) refl e
           reached = omega (arith, r.told);
         }
 
-pub at_answered : (ps : List Piece) (before b offset : ℕ) → BeginsAt ps before b offset → answer_of ps before b ≡ At offset
+pub at_answered : (ps : List Piece) (before b offset : ℕ) → BeginsAt ps before b offset → answer_of ps before b ≡ Some offset
 at_answered ps before b offset r =
     let c : b - before ≡ begun r.left = omega (arith, r.counted) in
     let o : 0 + length (user_data r.left) ≡ offset = omega (arith, r.reached) in
-    rw (le-ltb b before (omega (arith, r.counted)), c, r.stands) (there_begins 0 r.left r.first r.right r.begins ∙ ap At o)
+    rw (le-ltb b before (omega (arith, r.counted)), c, r.stands) (there_begins 0 r.left r.first r.right r.begins ∙ ap Some o)
 
 -- .. and where it is nowhere in them.
-pub elsewhere : (c : Beginning) (ps : List Piece) (before b : ℕ) → ((offset : ℕ) → (c ≡ At offset) ↔ BeginsAt ps before b offset) →
-    (c ≡ Elsewhere) ↔ ((offset : ℕ) → BeginsAt ps before b offset → ⊥)
+pub elsewhere : (c : Option ℕ) (ps : List Piece) (before b : ℕ) → ((offset : ℕ) → (c ≡ Some offset) ↔ BeginsAt ps before b offset) →
+    (c ≡ None) ↔ ((offset : ℕ) → BeginsAt ps before b offset → ⊥)
 elsewhere c ps before b f = (λ e offset r. apart (sym e ∙ (f offset).1 r), by c f)
   where
-    by : (c : Beginning) → ((offset : ℕ) → (c ≡ At offset) ↔ BeginsAt ps before b offset) → ((offset : ℕ) → BeginsAt ps before b offset → ⊥) → c ≡ Elsewhere
-    by (At o) f h = absurd (h o ((f o).0 refl))
-    by Elsewhere f h = refl
+    by : (c : Option ℕ) → ((offset : ℕ) → (c ≡ Some offset) ↔ BeginsAt ps before b offset) → ((offset : ℕ) → BeginsAt ps before b offset → ⊥) → c ≡ None
+    by (Some o) f h = absurd (h o ((f o).0 refl))
+    by None f h = refl

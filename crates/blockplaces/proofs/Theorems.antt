@@ -14,7 +14,7 @@ use Rattle.entry.specs.declared.Stand.TheVariants.{Free}
 use Rattle.rows.specs.Rows.{rows_from}
 use Rattle.reader.specs.declared.Reader.{Reader}
 use Rattle.reader.specs.Answer.{group_rows}
-use Rattle.seek.specs.declared.Beginning.TheVariants.{At, Elsewhere}
+use Rattle.std.specs.Prelude.{Some, None}
 use Rattle.seek.specs.Find.{find_call}
 use Rattle.layout.specs.Items.{Item, Piece, Each, tokens, grouped}
 use Rattle.layout.specs.Layout.{Image, Pictures, Run, Lays, data_of, user_data, entries_of}
@@ -68,7 +68,7 @@ module _ {size first : ℕ} {i : List Item} {b : List ℕ} {run : List Image} (l
 
   -- "the profile answers the offset in the row of block b, counting whole start and entire rows alone": exactly where block k,
   -- counted from 0 over the run, begins in this group.
-  pub block_found : (k offset : ℕ) → (find_call (in_bytes (group_rows s g.bytes g.entries)) (begun_in before) k ≡ At offset) ↔ BeginsAt ps (begun_in before) k offset
+  pub block_found : (k offset : ℕ) → (find_call (in_bytes (group_rows s g.bytes g.entries)) (begun_in before) k ≡ Some offset) ↔ BeginsAt ps (begun_in before) k offset
   block_found k offset =
       let (least, most) = within 64 size 126632 l.sized in
       let q = this_group in
@@ -77,7 +77,7 @@ module _ {size first : ℕ} {i : List Item} {b : List ℕ} {run : List Image} (l
       (λ x. answered_at ps (begun_in before) k offset (sym e ∙ x), λ x. e ∙ at_answered ps (begun_in before) k offset x)
 
   -- "or that b doesn't begin there": exactly where block k begins at no offset of this group.
-  pub block_elsewhere : (k : ℕ) → (find_call (in_bytes (group_rows s g.bytes g.entries)) (begun_in before) k ≡ Elsewhere) ↔ ((offset : ℕ) → BeginsAt ps (begun_in before) k offset → ⊥)
+  pub block_elsewhere : (k : ℕ) → (find_call (in_bytes (group_rows s g.bytes g.entries)) (begun_in before) k ≡ None) ↔ ((offset : ℕ) → BeginsAt ps (begun_in before) k offset → ⊥)
   block_elsewhere k = elsewhere (find_call (in_bytes (group_rows s g.bytes g.entries)) (begun_in before) k) ps (begun_in before) k (block_found k)
 
   -- An offset is one of the group's.
@@ -88,7 +88,7 @@ module _ {size first : ℕ} {i : List Item} {b : List ℕ} {run : List Image} (l
 
   -- "Blocks are numbered from 0 as they begin." What is answered of k is where the bytes of the run's k-th record begin, counted
   -- from 0 over its finished records and then the one broken off. They stand there whole, or a first part of them.
-  pub block_stands : (k offset : ℕ) → find_call (in_bytes (group_rows s g.bytes g.entries)) (begun_in before) k ≡ At offset → BlockAt g (records_of i ++ opened b) k offset
+  pub block_stands : (k offset : ℕ) → find_call (in_bytes (group_rows s g.bytes g.entries)) (begun_in before) k ≡ Some offset → BlockAt g (records_of i ++ opened b) k offset
   block_stands k offset e =
       let r = (block_found k offset).0 e in
       let q = this_group in
@@ -120,7 +120,7 @@ module _ {size first : ℕ} {i : List Item} {b : List ℕ} {run : List Image} (l
 -- "Blocks are numbered from 0 as they begin." Every record that a lawful run begins, finished or broken off, is found: it has a
 -- group, and find answers its offset there.
 pub block_somewhere : {size first : ℕ} {i : List Item} {b : List ℕ} {run : List Image} (l : Lays size first i b run) (s : Reader) → s.size ≡ size → (k : ℕ) → k < length (records_of i ++ opened b) →
-    (w : Somewhere run l.groups k) × (find_call (in_bytes (group_rows s w.group.bytes w.group.entries)) (begun_in w.before) k ≡ At w.offset)
+    (w : Somewhere run l.groups k) × (find_call (in_bytes (group_rows s w.group.bytes w.group.entries)) (begun_in w.before) k ≡ Some w.offset)
 block_somewhere l s sizes k h =
     let many = heads_many (heads_read l) in
     let w = block_in l.images k (omega (arith, firsts_in l.groups)) in

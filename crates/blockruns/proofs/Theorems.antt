@@ -32,8 +32,7 @@ use Rattle.layout.proofs.Repeats.{lent_among}
 use Rattle.layout.proofs.Theorems as plainly
 use Rattle.blocks.specs.Answer.{block_size_kept, blocks_start_call}
 use Rattle.blocks.proofs.Started.{as_started, begun_blocks}
-use Rattle.seek.specs.declared.Beginning.{Beginning}
-use Rattle.seek.specs.declared.Beginning.TheVariants.{At, Elsewhere}
+use Rattle.std.specs.Prelude.{Option, Some, None}
 use Rattle.seek.specs.Find.{find_call}
 use Rattle.blockplaces.specs.Places.{begun_in, BeginsAt}
 use Rattle.blockplaces.proofs.Theorems.{block_found, block_within}
@@ -210,14 +209,14 @@ c_blocks_rows state group number n rows answer z e =
     ap (take (12 * n)) left ∙ ap (λ (k : ℕ). take k (put rows 0 new)) (sym long) ∙ put_stands rows 0 new (omega arith)
 
 -- What a search tells, by what it finds.
-found_seen : (rows : List ℕ) (before k : ℕ) (told : List ℕ) (offset : ℕ) → length told ≡ answer_length → offset < 256 ^ 4 → find_call rows before k ≡ At offset →
+found_seen : (rows : List ℕ) (before k : ℕ) (told : List ℕ) (offset : ℕ) → length told ≡ answer_length → offset < 256 ^ 4 → find_call rows before k ≡ Some offset →
     (outcome_seen (dds_blocks_find rows before k told) ≡ 1) × (offset_seen (dds_blocks_find rows before k told) ≡ offset)
 unfolding dds_blocks_find called
 found_seen rows before k told offset long small e =
     let o : dds_blocks_find rows before k told ≡ left 0 [] (in_bytes (0 ∷ 0 ∷ 1 ∷ offset ∷ 0 ∷ 0 ∷ [])) = rw (eq-eqb (length told) answer_length long, e) in
     (ap outcome_seen o ∙ field_of_bytes (0 ∷ 0 ∷ 1 ∷ offset ∷ 0 ∷ 0 ∷ []) 2 (omega arith) (omega arith), ap offset_seen o ∙ field_of_bytes (0 ∷ 0 ∷ 1 ∷ offset ∷ 0 ∷ 0 ∷ []) 3 (omega arith) small)
 
-none_seen : (rows : List ℕ) (before k : ℕ) (told : List ℕ) → length told ≡ answer_length → find_call rows before k ≡ Elsewhere → outcome_seen (dds_blocks_find rows before k told) ≡ 0
+none_seen : (rows : List ℕ) (before k : ℕ) (told : List ℕ) → length told ≡ answer_length → find_call rows before k ≡ None → outcome_seen (dds_blocks_find rows before k told) ≡ 0
 unfolding dds_blocks_find called
 none_seen rows before k told long e =
     let o : dds_blocks_find rows before k told ≡ left 0 [] (in_bytes (0 ∷ 0 ∷ 0 ∷ 0 ∷ 0 ∷ 0 ∷ [])) = rw (eq-eqb (length told) answer_length long, e) in
@@ -239,7 +238,7 @@ module _ {size first : ℕ} {i : List Item} {b : List ℕ} {run : List Image} (l
   same : (k : ℕ) → find_call lent_rows (begun_in before) k ≡ find_call (in_bytes (group_rows (reader_of (reader_part state)) g.bytes g.entries)) (begun_in before) k
   same k = ap (λ (r : List ℕ). find_call r (begun_in before) k) (c_blocks_rows state g.bytes g.number g.entries rows answer zero accepts)
 
-  there : (k offset : ℕ) → (find_call lent_rows (begun_in before) k ≡ At offset) ↔ BeginsAt ps (begun_in before) k offset
+  there : (k offset : ℕ) → (find_call lent_rows (begun_in before) k ≡ Some offset) ↔ BeginsAt ps (begun_in before) k offset
   there k offset =
       let f = block_found l beginning rest g before behind ps parts groups place (reader_of (reader_part state)) sizes k offset in
       (λ e. f.0 (sym (same k) ∙ e), λ r. same k ∙ f.1 r)
@@ -254,17 +253,17 @@ module _ {size first : ℕ} {i : List Item} {b : List ℕ} {run : List Image} (l
   pub c_block_found : (k offset : ℕ) → ((outcome_seen (sought k) ≡ 1) × (offset_seen (sought k) ≡ offset)) ↔ BeginsAt ps (begun_in before) k offset
   c_block_found k offset = (λ z. by (find_call lent_rows (begun_in before) k) refl z, λ r. found_seen lent_rows (begun_in before) k told offset long (small k offset r) ((there k offset).1 r))
     where
-      by : (f : Beginning) → find_call lent_rows (begun_in before) k ≡ f → (outcome_seen (sought k) ≡ 1) × (offset_seen (sought k) ≡ offset) → BeginsAt ps (begun_in before) k offset
-      by (At o) e (z, y) =
+      by : (f : Option ℕ) → find_call lent_rows (begun_in before) k ≡ f → (outcome_seen (sought k) ≡ 1) × (offset_seen (sought k) ≡ offset) → BeginsAt ps (begun_in before) k offset
+      by (Some o) e (z, y) =
           let r = (there k o).0 e in
           let s = (found_seen lent_rows (begun_in before) k told o long (small k o r) e).1 in
           subst (λ (x : ℕ). BeginsAt ps (begun_in before) k x) (sym s ∙ y) r
-      by Elsewhere e (z, y) = absurd (omega (arith, none_seen lent_rows (begun_in before) k told long e))
+      by None e (z, y) = absurd (omega (arith, none_seen lent_rows (begun_in before) k told long e))
 
   -- ".. or that b doesn't begin there": outcome 0 exactly where it begins nowhere in this group.
   pub c_block_elsewhere : (k : ℕ) → (outcome_seen (sought k) ≡ 0) ↔ ((offset : ℕ) → BeginsAt ps (begun_in before) k offset → ⊥)
   c_block_elsewhere k = (λ z offset r. omega (arith, ((c_block_found k offset).1 r).0), λ h. by (find_call lent_rows (begun_in before) k) refl h)
     where
-      by : (f : Beginning) → find_call lent_rows (begun_in before) k ≡ f → ((offset : ℕ) → BeginsAt ps (begun_in before) k offset → ⊥) → outcome_seen (sought k) ≡ 0
-      by (At o) e h = absurd (h o ((there k o).0 e))
-      by Elsewhere e h = none_seen lent_rows (begun_in before) k told long e
+      by : (f : Option ℕ) → find_call lent_rows (begun_in before) k ≡ f → ((offset : ℕ) → BeginsAt ps (begun_in before) k offset → ⊥) → outcome_seen (sought k) ≡ 0
+      by (Some o) e h = absurd (h o ((there k o).0 e))
+      by None e h = none_seen lent_rows (begun_in before) k told long e

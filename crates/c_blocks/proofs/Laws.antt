@@ -20,7 +20,7 @@ use Rattle.reader.specs.ReadAnswer as read
 use Rattle.reader.specs.Answer.{fresh, read_call, told}
 use Rattle.blocks.specs.Answer.{blocks_read_call}
 use Rattle.blocks.specs.Bounds.{unless_other}
-use Rattle.seek.specs.declared.Beginning.{Beginning}
+use Rattle.std.specs.Prelude.{Option}
 use Rattle.seek.specs.Find.{find_call}
 use Rattle.slices.specs.Call.{Left, left, answer_length, answer_kept, lengths_kept, of_meaning, called, Tells}
 use Rattle.slices.proofs.Calls.{lengths, stopped, went_on, answered, none_lent}
@@ -69,7 +69,7 @@ module _ (state group : List ℕ) (number n : ℕ) (rows answer : List ℕ) wher
       goes_on z = record { refused = λ h. absurd (h refl); stays = λ h. refl; kept = λ h. kept; plainly = λ h. rw (is_block, is, z) at judged }
 
 -- What a search tells.
-pub found : (rows : List ℕ) (before b : ℕ) (answer : List ℕ) {answer' : List ℕ} {refusal : ℕ} {a : Beginning} {t : Told} → answer_kept answer ≡ true → a ≡ find_call rows before b → t ≡ find_told a → Tells t refusal answer' →
+pub found : (rows : List ℕ) (before b : ℕ) (answer : List ℕ) {answer' : List ℕ} {refusal : ℕ} {a : Option ℕ} {t : Told} → answer_kept answer ≡ true → a ≡ find_call rows before b → t ≡ find_told a → Tells t refusal answer' →
     left refusal [] answer' ≡ dds_blocks_find rows before b answer
 unfolding dds_blocks_find
 found rows before b answer {a = a} kept e f t = answered find_told _ _ answer kept e f (none_lent (find_told a)) t

@@ -8,8 +8,7 @@ use Rattle.answer.specs.Answer.{Accepted}
 use Rattle.answer.specs.Answer.{accepted}
 use Rattle.reader.specs.Answer.{fresh, start_told, told, group_rows, rows_left}
 use Rattle.blocks.specs.Answer.{blocks_start_call, blocks_read_call}
-use Rattle.seek.specs.declared.Beginning.{Beginning}
-use Rattle.seek.specs.declared.Beginning.TheVariants.{At, Elsewhere}
+use Rattle.std.specs.Prelude.{Option, Some, None}
 use Rattle.seek.specs.Find.{find_call}
 use Rattle.slices.specs.Call.{Left, left, slice, lengths_kept, answer_kept, of_meaning, called}
 use Rattle.states.specs.States.{reader_length, reader_of, reader_bytes, reader_meant}
@@ -44,9 +43,9 @@ dds_blocks_read state group number n rows answer =
     ((state_left a (reader_part state) ++ block_part state) ∷ rows_left a (in_bytes (group_rows s group n)) rows ∷ []) (state ∷ rows ∷ []) answer
 
 -- "the offset in the row of block b .. or that b doesn't begin there": outcome 1 and the offset, or outcome 0.
-abbrev pub find_told : Beginning → Told
-find_told (At offset) = Accepted 1 offset 0 0
-find_told Elsewhere = accepted
+abbrev pub find_told : Option ℕ → Told
+find_told (Some offset) = Accepted 1 offset 0 0
+find_told None = accepted
 
 unfoldable pub dds_blocks_find : (rows : List ℕ) (before b : ℕ) (answer : List ℕ) → Left
 dds_blocks_find rows before b answer = called (answer_kept answer) (find_told (find_call rows before b)) [] [] answer

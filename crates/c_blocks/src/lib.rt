@@ -2,13 +2,14 @@
 #![tactic(auto)]
 
 ghost use Rattle.std.specs.Prelude.{◌≡◌, [], ◌∷◌};
+ghost use Rattle.answer.specs.Numbers.{blocks_number};
+ghost use Rattle.answer.specs.Results.{told_of};
 ghost use Rattle.slices.specs.Call.{left};
 ghost use Rattle.c_blocks.specs.Calls.{dds_blocks_start, dds_blocks_read, find_told, dds_blocks_find};
 ghost use Rattle.c_blocks.specs.ForContracts.{Judges};
 
 use answer::refusals::{BlocksRefusal, Refusal};
 use answer::{Outcome, Refused, Told};
-use seek::Beginning;
 
 // The length of the state slice, in bytes: a plain reader's and the block size.
 const BLOCKS_LENGTH: usize = 28;
@@ -91,17 +92,17 @@ pub fn read(
 }
 
 // What a search tells of its answer.
-fn find_told(found: Beginning) -> Told<BlocksRefusal>
-    ensures { result ≡ find_told found }
+fn find_told(found: Option<u32>) -> Told<BlocksRefusal>
+    ensures { told_of blocks_number result ≡ find_told found }
 {
-    match found {
-        Beginning::At(offset) => Ok(Outcome {
+    Ok(match found {
+        Some(offset) => Outcome {
             outcome: 1,
             number: offset,
             ..Outcome::default()
-        }),
-        Beginning::Elsewhere => Ok(Outcome::default()),
-    }
+        },
+        None => Outcome::default(),
+    })
 }
 
 // Where block b begins, from a group's rows and the number of blocks begun before it.

@@ -5,9 +5,9 @@ use mathlib.Core.Bool.{true}
 use mathlib.Core.List.{List, [], ◌∷◌}
 use Prim.Native.Nat.{ℕ}
 use Rattle.answer.specs.Answer.{Told}
-use Rattle.volume.specs.declared.VolumeAnswer.{VolumeAnswer}
-use Rattle.alert.specs.declared.AlertAnswer.{AlertAnswer}
-use Rattle.radio.specs.declared.RadioAnswer.{RadioAnswer}
+use Rattle.volume.specs.Information.{VolumeAnswer}
+use Rattle.alert.specs.Flags.{AlertAnswer}
+use Rattle.radio.specs.Search.{RadioAnswer}
 use Rattle.volume.specs.Information.{told, Makes, Reads}
 use Rattle.alert.specs.Flags as flags
 use Rattle.radio.specs.Search as radio

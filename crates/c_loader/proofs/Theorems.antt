@@ -12,17 +12,16 @@ use lib.ListN.{length}
 use Rattle.numbers.specs.Numbers.{number_at, in_bytes, field}
 use Rattle.answer.specs.Answer.{Told}
 use Rattle.answer.specs.Answer.{numbers_told, refusal_told}
-use Rattle.volume.specs.declared.VolumeAnswer.{VolumeAnswer}
+use Rattle.volume.specs.Information.{VolumeAnswer}
 use Rattle.volume.specs.Information.{fields_of, length_and_thickness, thickness, make_refusal, read_refusal, answer_of, told, refusal_of, Makes, Reads}
 use Rattle.volume.proofs.InformationLaws.{make_kept, none_refused, thickness_most, type_told}
 use Rattle.volume.proofs.Theorems.{volume_returned, volume_only_made}
-use Rattle.alert.specs.declared.AlertAnswer.{AlertAnswer}
-use Rattle.alert.specs.declared.AlertAnswer.TheVariants as alert
+use Rattle.alert.specs.Flags.{AlertAnswer}
 use Rattle.alert.specs.Flags as flags
 use Rattle.alert.proofs.FlagLaws.{counted_so, raised_most, lowest_most}
 use Rattle.alert.proofs.Theorems.{alert_returned}
-use Rattle.radio.specs.declared.RadioAnswer.{RadioAnswer}
-use Rattle.radio.specs.declared.RadioAnswer.TheVariants.{Found, Nothing, Refused}
+use Rattle.radio.specs.Search.{RadioAnswer}
+use Rattle.radio.specs.Search.{Found, Nothing, Refused}
 use Rattle.radio.specs.Search as radio
 use Rattle.radio.specs.Search.{MessageAt, First}
 use Rattle.radio.proofs.SearchLaws.{find_first, never_refused}
@@ -110,7 +109,7 @@ module _ (high low n : ℕ) where
   unfolding flags.make_call
   eight = by (eqb n 8) refl
     where
-      by : (b : Bool) → eqb n 8 ≡ b → refusal_told (flags.told (cond b (flags.counted_in (flags.alert_of high low) high low) (alert.Refused 60))) ≡ 0 → n ≡ 8
+      by : (b : Bool) → eqb n 8 ≡ b → refusal_told (flags.told (cond b (flags.counted_in (flags.alert_of high low) high low) (flags.Refused 60))) ≡ 0 → n ≡ 8
       by true e z = eqb-true n 8 e
       by false e z = absurd (omega arith)
 

@@ -1,53 +1,67 @@
-// An AIT loader's memory from C: Volume Information, the Tape Alert flags, and the search in received bytes.
+// An AIT loader's memory from C: Volume Information, the Tape Alert flags, and the search in received bytes. Each call tests its answer
+// slice itself: a function over all five would take a closure that writes the lent slice, and its contract would be no plainer.
 #![tactic(auto)]
 
 ghost use Rattle.std.specs.Prelude.{◌≡◌, [], ◌∷◌};
-ghost use Rattle.volume.specs.Information.{told};
+ghost use Rattle.answer.specs.Numbers.{loader_number};
+ghost use Rattle.answer.specs.Results.{told_of};
+ghost use Rattle.volume.specs.Information.{answered, told};
 ghost use Rattle.alert.specs.Flags as flags;
 ghost use Rattle.radio.specs.Search as radio;
 ghost use Rattle.slices.specs.Call.{left};
 ghost use Rattle.c_loader.specs.Calls.{dds_volume_make, dds_volume_read, dds_alert_make, dds_alert_read, dds_radio_find};
 
-use alert::{Alert, AlertAnswer};
-use answer::Told;
-use radio::{Radio, RadioAnswer};
-use volume::{Volume, VolumeAnswer};
+use alert::{Alert, Counted};
+use answer::refusals::LoaderRefusal;
+use answer::{Outcome, Told};
+use radio::{Found, Radio};
+use volume::{TapeType, Volume};
 
 // What a call on Volume Information tells of its answer.
-fn volume_told(done: VolumeAnswer) -> Told
-    ensures { result ≡ told done }
+fn volume_told(done: Result<TapeType, LoaderRefusal>) -> Told<LoaderRefusal>
+    ensures { told_of loader_number result ≡ told (answered done) }
 {
-    match done {
-        VolumeAnswer::TypeA => Told::Accepted(0, 0, 0, 0),
-        VolumeAnswer::TypeB => Told::Accepted(1, 0, 0, 0),
-        VolumeAnswer::Refused(refusal) => Told::RefusedAt(refusal, 0),
-    }
+    let outcome = match done? {
+        TapeType::A => 0,
+        TapeType::B => 1,
+    };
+    Ok(Outcome {
+        outcome,
+        ..Outcome::default()
+    })
 }
 
 // What a call on the flags tells of its answer.
-fn alert_told(done: AlertAnswer) -> Told
-    ensures { result ≡ flags.told done }
+fn alert_told(done: Result<Counted, LoaderRefusal>) -> Told<LoaderRefusal>
+    ensures { told_of loader_number result ≡ flags.told (flags.answered done) }
 {
-    match done {
-        AlertAnswer::Counted {
-            raised,
-            lowest,
-            high,
-            low,
-        } => Told::Accepted(raised, lowest, high, low),
-        AlertAnswer::Refused(refusal) => Told::RefusedAt(refusal, 0),
-    }
+    let Counted {
+        raised,
+        lowest,
+        high,
+        low,
+    } = done?;
+    Ok(Outcome {
+        outcome: raised,
+        number: lowest,
+        entries: high,
+        taken: low,
+    })
 }
 
 // What a search tells of its answer.
-fn radio_told(done: RadioAnswer) -> Told
-    ensures { result ≡ radio.told done }
+fn radio_told(done: Result<Option<Found>, LoaderRefusal>) -> Told<LoaderRefusal>
+    ensures { told_of loader_number result ≡ radio.told (radio.answered done) }
 {
-    match done {
-        RadioAnswer::Found { place, length_at } => Told::Accepted(1, place, length_at, 0),
-        RadioAnswer::Nothing => Told::Accepted(0, 0, 0, 0),
-        RadioAnswer::Refused(refusal) => Told::RefusedAt(refusal, 0),
-    }
+    Ok(match done? {
+        Some(Found { place, length_at }) => Outcome {
+            outcome: 1,
+            number: place,
+            entries: length_at,
+            ..Outcome::default()
+        },
+        None => Outcome::default(),
+    })
 }
 
 // Volume Information from its fields.

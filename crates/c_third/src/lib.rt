@@ -34,7 +34,7 @@ pub fn make(n: u32, rows: &mut [u8], answer: &mut [u8]) -> u32
     answered(rows, answer, |rows| third::make(n, rows))
 }
 
-// Whether every column keeps both rules.
+// Whether every column keeps both rules. It is lent the rows to read alone, and `answered` a call that may write them.
 #[tactic(auto, using(slices::proofs::Calls::stopped), unfolding(crate::specs::Calls::dds_third_check))]
 pub fn check(n: u32, rows: &[u8], answer: &mut [u8]) -> u32
     ensures { left result [] answer.new ≡ dds_third_check n rows.now answer.old }

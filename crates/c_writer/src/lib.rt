@@ -2,18 +2,22 @@
 #![tactic(auto)]
 
 ghost use Rattle.std.specs.Prelude.{◌≡◌, ◌&&◌, [], ◌∷◌, length};
+ghost use Rattle.answer.specs.Numbers.{refusal_number};
 ghost use Rattle.answer.specs.Answer.{if_accepted};
+ghost use Rattle.answer.specs.Results.{told_of};
+ghost use Rattle.writer.specs.WriteAnswer.{answer_of};
 ghost use Rattle.writer.specs.Calls.{told, state_of};
 ghost use Rattle.slices.specs.Call.{left, answer_length, lengths_kept, Tells, Refuses};
 ghost use Rattle.states.specs.States.{writer_length, b4_meant, writer_bytes, writer_meant};
 ghost use Rattle.c_writer.specs.Calls.{dds_writer_start, dds_record, dds_separator, dds_end};
 
 use answer::refusals::Refusal;
-use answer::{Outcome, Refused, Told};
+use answer::{Outcome, Told};
 use laying::Writer;
 use writer::Written;
 
 // A fresh writer, into the state slice.
+#[tactic(auto, unfolding(crate::specs::Calls::dds_writer_start, slices::specs::Call::called), using(slices::proofs::Calls::lengths))]
 pub fn start(size: u32, first: u32, state: &mut [u8], answer: &mut [u8]) -> u32
     ensures { left result (state.new ∷ []) answer.new ≡ dds_writer_start size first state.old answer.old }
 {
@@ -28,6 +32,7 @@ pub fn start(size: u32, first: u32, state: &mut [u8], answer: &mut [u8]) -> u32
 }
 
 // Whether the slices refuse a call: by a length, with nothing written, or by a number that has no meaning, with the answer.
+#[tactic(auto, using(slices::proofs::Calls::lengths))]
 fn refused(state: &[u8], warn: u32, answer: &mut [u8]) -> bool
     ensures { Refuses (lengths_kept (length state.now) writer_length (length answer.old)) (writer_meant state.now && b4_meant warn) answer.old result answer.new }
 {
@@ -62,6 +67,7 @@ fn told_of(done: Result<Written, Refusal>) -> Told<Refusal>
 }
 
 // What a call leaves in the state and the answer, and what it returns.
+#[tactic(auto, unfolding(writer::specs::Calls::state_of))]
 fn finish(state: &mut [u8], answer: &mut [u8], done: Result<Written, Refusal>) -> u32
     requires { (length state.old ≡ writer_length) × (length answer.old ≡ answer_length) }
     ensures state_after { (given : Writer) → state.new ≡ if_accepted (told (answer_of given done)) (writer_bytes (state_of (answer_of given done))) state.old }

@@ -3,7 +3,13 @@
 #![tactic(auto)]
 
 use programs::Explainer;
+use runfile::Run;
 
 fn main(rt: HostRuntime) {
-    runfile::run(&Explainer, &mut rt.stdin(), &mut rt.stdout())
+    let mut run = Run {
+        program: Explainer,
+        stdin: rt.stdin(),
+        stdout: rt.stdout(),
+    };
+    run.go();
 }

@@ -1,6 +1,6 @@
 // The field's two tables: change request 2026-08. What they are by rule is specs/Tables; each is held to that rule, entry by entry,
-// where it is made. Each is a type of its own, since mending reads the logarithms alone: with both bound in one it took 256 bytes of
-// stack and 176 of code more.
+// where it is made. Each is a type of its own: mending reads the logarithms alone, and with both in one it takes 256 bytes of stack
+// and 176 of code more.
 ghost use Rattle.std.specs.Prelude.{◌≡◌, ◌<◌};
 ghost use Rattle.field.specs.Tables.{power_table, logarithm_table, power_at, logarithm_at};
 

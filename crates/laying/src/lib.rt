@@ -2,8 +2,7 @@
 // a state is sound, and what a call answers, the crates above say.
 #![tactic(auto)]
 
-pub mod lay;
-pub mod room;
+pub mod desk;
 
 ghost use Rattle.answer.specs.Numbers.{refusal_number};
 ghost use Rattle.laying.specs.WriterStart.{start_of};

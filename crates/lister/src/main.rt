@@ -3,7 +3,13 @@
 #![tactic(auto)]
 
 use programs::Lister;
+use runfile::Run;
 
 fn main(rt: HostRuntime) {
-    runfile::run(&Lister, &mut rt.stdin(), &mut rt.stdout())
+    let mut run = Run {
+        program: Lister,
+        stdin: rt.stdin(),
+        stdout: rt.stdout(),
+    };
+    run.go();
 }

@@ -36,6 +36,7 @@ pub trait Program {
         ensures { Tells (read_of program i reader image.now pair) text.old text.new result };
 }
 
+#[derive(Clone, Copy, Debug, PartialEq, Eq)]
 pub struct Lister;
 
 impl Program for Lister {
@@ -57,6 +58,7 @@ impl Program for Lister {
     }
 }
 
+#[derive(Clone, Copy, Debug, PartialEq, Eq)]
 pub struct Explainer;
 
 impl Program for Explainer {

@@ -2,34 +2,20 @@
 -- Assumes nothing.
 use mathlib.Core.Path.{◌≡◌, refl, sym, ap, subst, ◌∙◌}
 use mathlib.Core.Logic.{◌⊎◌, inl, inr}
-use mathlib.Core.Bool.{Bool, true, false, cond}
+use mathlib.Core.Bool.{Bool, true, false, cond, ◌&&◌}
 use mathlib.Core.List.{List, [], ◌∷◌}
 use Prim.Native.Nat.{ℕ, zero, suc, ◌+◌, ◌-◌, ◌≤◌, ◌<◌}
 use native.Mathlib.Nat.{eq-or-lt_of_le}
 use native.Mathlib.Numerals.{add-one, add-two, add-three, add-four}
 use native.Mathlib.Omega.{arith}
-use borrow.Author.Tests.{eq-eqb, ne_eqb, le-leb, lt-leb, leb-true, eqb-true}
+use borrow.Author.Tests.{le-leb, lt-leb, leb-true, eqb-true}
 use lib.Dec.{eqb, leb}
 use lib.ListN.{length, get_or, take, drop, length-drop}
-use lib.Seq.{drop-cons, drop-length, length-take-le}
+use lib.Seq.{drop-cons, length-take-le, take-take}
 use Rattle.numbers.proofs.Tests.{both, and}
-use Rattle.radio.specs.declared.RadioAnswer.{RadioAnswer}
-use Rattle.radio.specs.declared.RadioAnswer.TheVariants.{Found, Nothing, Refused}
+use Rattle.radio.specs.Search.{RadioAnswer}
+use Rattle.radio.specs.Search.{Found, Nothing, Refused}
 use Rattle.radio.specs.Search.{start, alike_bytes, begins_at, first_from, find_call, MessageAt, First}
-
--- Bytes that differ, bytes that are the same, and no byte.
-module _ (a b : List ℕ) (i : ℕ) (long : length a ≡ length b) where
-  pub unlike : i < length a → (get_or a i 0 ≡ get_or b i 0 → ⊥) → alike_bytes (drop i a) (drop i b) ≡ alike_bytes a b → false ≡ alike_bytes a b
-  unlike less h e = sym (rw (drop-cons a i 0 less, drop-cons b i 0 (omega arith), ne_eqb (get_or a i 0) (get_or b i 0) h)) ∙ e
-
-  pub like : i < length a → get_or a i 0 ≡ get_or b i 0 → alike_bytes (drop i a) (drop i b) ≡ alike_bytes a b → alike_bytes (drop (i + 1) a) (drop (i + 1) b) ≡ alike_bytes a b
-  like less h e = sym (rw (drop-cons a i 0 less, drop-cons b i 0 (omega arith), eq-eqb (get_or a i 0) (get_or b i 0) h, add-one i)) ∙ e
-
-  pub all_like : i ≡ length a → alike_bytes (drop i a) (drop i b) ≡ alike_bytes a b → true ≡ alike_bytes a b
-  all_like all e =
-      let none : drop i a ≡ [] = ap (λ (n : ℕ). drop n a) all ∙ drop-length a in
-      let none' : drop i b ≡ [] = ap (λ (n : ℕ). drop n b) (all ∙ long) ∙ drop-length b in
-      sym (rw (none, none')) ∙ e
 
 -- No place before the third has two bytes before it.
 pub none_before : (received : List ℕ) (n : ℕ) → first_from received 2 (n - 2) ≡ first_from received 0 n
@@ -47,12 +33,14 @@ none_behind received place zero least few = refl
 none_behind received place (suc n) least few =
     rw (le-leb 2 place least, lt-leb (place + 4) (length received) (omega arith)) (none_behind received (suc place) n (omega arith) (omega arith))
 
--- The comparison at a place, where two bytes stand before it and the length byte behind.
-begins : (received : List ℕ) (place : ℕ) → 2 ≤ place → place + 3 < length received → begins_at received place ≡ alike_bytes (take (place + 3 - (place - 2)) (drop (place - 2) received)) start
+-- What is compared at a place, where two bytes stand before it and the length byte behind.
+begins : (received : List ℕ) (place : ℕ) → 2 ≤ place → place + 3 < length received → begins_at (take (place + 4 - (place - 2)) (drop (place - 2) received)) 2 ≡ begins_at received place
 unfolding begins_at
 begins received place least less =
-    let five : place + 3 - (place - 2) ≡ 5 = omega arith in
-    rw (five, le-leb 2 place least, le-leb (place + 4) (length received) (omega arith))
+    let six : place + 4 - (place - 2) ≡ 6 = omega arith in
+    let long : length (take 6 (drop (place - 2) received)) ≡ 6 = length-take-le 6 (drop (place - 2) received) (omega (arith, length-drop (place - 2) received)) in
+    let five : take 5 (take 6 (drop (place - 2) received)) ≡ take 5 (drop (place - 2) received) = take-take 5 6 (drop (place - 2) received) (omega arith) in
+    rw (six, long, five, le-leb 2 place least, le-leb (place + 4) (length received) (omega arith))
 
 -- A loop over the places: the first from here on is the first of all, and a place has room in four bytes.
 pub record Searching (received : List ℕ) (place : ℕ) : Type 0 where
@@ -65,13 +53,13 @@ pub searching : (received : List ℕ) → length received ≤ 4294967295 → Sea
 searching received short = record { short = short; least = omega arith; most = omega arith; same = none_before received (length received) }
 
 module _ (received : List ℕ) (place : ℕ) (r : Bool) (less : place + 3 < length received) (s : Searching received place)
-    (is : r ≡ alike_bytes (take (place + 3 - (place - 2)) (drop (place - 2) received)) start) where
+    (is : r ≡ begins_at (take (place + 4 - (place - 2)) (drop (place - 2) received)) 2) where
   turn : cond r (Found place (place + 3)) (first_from received (place + 1) (length received - (place + 1))) ≡ first_from received 0 (length received)
   unfolding first_from
   turn =
       let rest : length received - place ≡ suc (length received - (place + 1)) = omega arith in
       let all = rw rest at s.same in
-      rw (is ∙ sym (begins received place s.least less), add-one place) (rw (add-one place) at all)
+      rw (is ∙ begins received place s.least less, add-one place) (rw (add-one place) at all)
 
   pub found_here : r ≡ true → Found place (place + 3) ≡ first_from received 0 (length received)
   found_here e = sym (ap (λ (b : Bool). cond b (Found place (place + 3)) (first_from received (place + 1) (length received - (place + 1)))) e) ∙ turn
@@ -97,18 +85,25 @@ pub find_refused : (received : List ℕ) → 4294967295 < length received → Re
 unfolding find_call
 find_refused received long = rw (lt-leb (length received) 4294967295 long)
 
--- What is compared at a place has the length of what it is compared with.
-pub length_five : (received : List ℕ) (place : ℕ) → 2 ≤ place → place + 3 ≤ length received → length (take (place + 3 - (place - 2)) (drop (place - 2) received)) ≡ 5
-length_five received place least less =
-    let five : place + 3 - (place - 2) ≡ 5 = omega arith in
-    ap (λ (n : ℕ). length (take n (drop (place - 2) received))) five
-    ∙ length-take-le 5 (drop (place - 2) received) (omega (arith, length-drop (place - 2) received))
-
 -- Five bytes from a place on, one by one.
 five_from : (l : List ℕ) (at : ℕ) → at + 5 ≤ length l
     → take 5 (drop at l) ≡ get_or l at 0 ∷ get_or l (at + 1) 0 ∷ get_or l (at + 2) 0 ∷ get_or l (at + 3) 0 ∷ get_or l (at + 4) 0 ∷ []
 five_from l at h =
     rw (drop-cons l at 0 (omega arith), drop-cons l (suc at) 0 (omega arith), drop-cons l (suc (suc at)) 0 (omega arith), drop-cons l (suc (suc (suc at))) 0 (omega arith), drop-cons l (suc (suc (suc (suc at)))) 0 (omega arith), add-one at, add-two at, add-three at, add-four at)
+
+-- What a place asks of bytes that begin two before it, one by one.
+abbrev pub one_by_one : List ℕ → Bool
+one_by_one l =
+    leb 6 (length l) && (eqb (get_or l 0 0) 0x00 && (eqb (get_or l 1 0) 0x00 && (eqb (get_or l 2 0) 0x00 && (eqb (get_or l 3 0) 0xB2 && (eqb (get_or l 4 0) 0x4D && true)))))
+
+pub begins_so : (l : List ℕ) → begins_at l 2 ≡ one_by_one l
+unfolding begins_at
+begins_so l = by (leb 6 (length l)) refl
+  where
+    by : (b : Bool) → leb 6 (length l) ≡ b → (b && alike_bytes (take 5 (drop 0 l)) start)
+        ≡ (b && (eqb (get_or l 0 0) 0x00 && (eqb (get_or l 1 0) 0x00 && (eqb (get_or l 2 0) 0x00 && (eqb (get_or l 3 0) 0xB2 && (eqb (get_or l 4 0) 0x4D && true))))))
+    by true e = ap (λ (s : List ℕ). alike_bytes s start) (five_from l 0 (omega (arith, leb-true 6 (length l) e)))
+    by false e = refl
 
 -- Five bytes that are the start of a message.
 record Five (l : List ℕ) (at : ℕ) : Type 0 where

@@ -4,7 +4,7 @@ use mathlib.Core.Path.{◌≡◌, sym, ◌∙◌}
 use mathlib.Core.List.{List}
 use Prim.Native.Nat.{ℕ, ◌≤◌}
 use lib.ListN.{length}
-use Rattle.radio.specs.declared.RadioAnswer.{RadioAnswer}
+use Rattle.radio.specs.Search.{RadioAnswer}
 use Rattle.radio.specs.Search.{find_call, First}
 use Rattle.radio.proofs.SearchLaws.{find_first, first_so}
 

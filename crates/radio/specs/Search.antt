@@ -1,11 +1,25 @@
 -- Source document 001, 18.7 and 18.8: where a message begins in received bytes, and what the search for it answers.
 -- Assumes nothing.
-use Rattle.std.specs.Prelude.{ℕ, zero, suc, ◌+◌, ◌-◌, ◌≤◌, ◌<◌, ◌≡◌, List, [], ◌∷◌, Bool, true, false, cond, ◌&&◌, eqb, leb, length, get_or, take, drop}
+use Rattle.std.specs.Prelude.{ℕ, zero, suc, ◌+◌, ◌-◌, ◌≤◌, ◌<◌, ◌≡◌, List, [], ◌∷◌, Bool, true, false, cond, ◌&&◌, eqb, leb, length, get_or, take, drop, Result, Ok, Err, Option, Some, None}
 use Rattle.answer.specs.Answer.{Told}
 use Rattle.answer.specs.Answer as answer
 use Rattle.answer.specs.Answer.{accepted}
-use Rattle.radio.specs.declared.RadioAnswer.{RadioAnswer}
-use Rattle.radio.specs.declared.RadioAnswer.TheVariants.{Found, Nothing, Refused}
+use Rattle.answer.specs.declared.refusals.LoaderRefusal.{LoaderRefusal}
+use Rattle.answer.specs.Numbers.{loader_number}
+use Rattle.radio.specs.declared.Found as code
+
+-- What a search answers: the place of the pattern's first byte and of the length byte behind it, that there is none, or the number of
+-- the refusal.
+pub data RadioAnswer : Type 0 where
+  Found : (place length_at : ℕ) → RadioAnswer
+  Nothing : RadioAnswer
+  Refused : (refusal : ℕ) → RadioAnswer
+
+-- What a result of the code answers.
+abbrev pub answered : Result (Option code.Found) LoaderRefusal → RadioAnswer
+answered (Ok (Some f)) = Found f.place f.length_at
+answered (Ok None) = Nothing
+answered (Err refusal) = Refused (loader_number refusal)
 
 -- 18.7: "a minimum of two bytes of Logic 0 followed by the synchronous pattern (00)(B2)(4D)"
 abbrev pub start : List ℕ

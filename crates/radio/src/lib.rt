@@ -5,43 +5,39 @@
 mod search;
 
 ghost use Rattle.std.specs.Prelude.{◌≡◌};
-ghost use Rattle.radio.specs.Search.{find_call};
+ghost use Rattle.radio.specs.Search.{answered, find_call};
+
+use answer::refusals::LoaderRefusal;
 
 // Bytes received by radio.
-#[derive(Clone, Copy)]
+#[derive(Clone, Copy, Debug, PartialEq, Eq)]
 pub struct Radio {}
 
-// What a search answers: the place of the pattern's first byte and of the length byte behind it.
-#[derive(Clone, Copy)]
-pub enum RadioAnswer {
-    Found { place: u32, length_at: u32 },
-    Nothing,
-    Refused(u32),
+// Where a message begins: the place of the pattern's first byte and of the length byte behind it.
+#[derive(Clone, Copy, Debug, PartialEq, Eq)]
+pub struct Found {
+    pub place: u32,
+    pub length_at: u32,
 }
 
 impl Radio {
     pub const LONGEST: usize = 4294967295;
 
     // The first place where a message begins: the pattern 00 B2 4D behind two zero bytes, and a length byte behind it.
-    pub fn find(received: &[u8]) -> RadioAnswer
-        ensures { result ≡ find_call received.now }
+    pub fn find(received: &[u8]) -> Result<Option<Found>, LoaderRefusal>
+        ensures { answered result ≡ find_call received.now }
     {
-        if received.len() > Radio::LONGEST {
-            return RadioAnswer::Refused(60);
+        if received.len() > Self::LONGEST {
+            return Err(LoaderRefusal::Length);
         }
-        let start = b"\x00\x00\x00\xB2\x4D";
-        let mut place: usize = 2;
-        while place + 3 < received.len() {
-            let from = place - 2;
-            let to = place + 3;
-            if search::alike(&received[from..to], start) {
-                return RadioAnswer::Found {
+        for place in 2..received.len().saturating_sub(3) {
+            if search::begins(&received[place - 2..place + 4]) {
+                return Ok(Some(Found {
                     place: place as u32,
-                    length_at: to as u32,
-                };
+                    length_at: place as u32 + 3,
+                }));
             }
-            place += 1;
         }
-        RadioAnswer::Nothing
+        Ok(None)
     }
 }

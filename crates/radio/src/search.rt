@@ -1,18 +1,11 @@
 // The comparison that the search in received bytes makes at each place.
-ghost use Rattle.std.specs.Prelude.{◌≡◌, length};
-ghost use Rattle.radio.specs.Search.{alike_bytes};
+ghost use Rattle.std.specs.Prelude.{◌≡◌};
+ghost use Rattle.radio.specs.Search.{begins_at};
 
-// Whether two slices of one length hold the same bytes.
-pub(crate) fn alike(bytes: &[u8], pattern: &[u8]) -> bool
-    requires { length bytes.now ≡ length pattern.now }
-    ensures { result ≡ alike_bytes bytes.now pattern.now }
+// Whether bytes are a message's start: two zero bytes, the pattern, and a length byte behind it.
+#[tactic(auto, using(crate::proofs::SearchLaws::begins_so, numbers::proofs::Tests::tests))]
+pub(crate) fn begins(bytes: &[u8]) -> bool
+    ensures { result ≡ begins_at bytes.now 2 }
 {
-    let mut i: usize = 0;
-    while i < bytes.len() {
-        if bytes[i] != pattern[i] {
-            return false;
-        }
-        i += 1;
-    }
-    true
+    matches!(bytes, [0x00, 0x00, 0x00, 0xB2, 0x4D, _, ..])
 }

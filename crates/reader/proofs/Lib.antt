@@ -1,5 +1,6 @@
 -- The laws that the proofs of this crate share, and those that the crates above cite.
 pub mod Refusals
+pub mod Five
 pub mod Accepted
 pub mod GroupRows
 pub mod Sound

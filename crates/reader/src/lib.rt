@@ -35,6 +35,7 @@ pub enum Read {
 }
 
 impl Reader {
+    #[tactic(auto, unfolding(crate::specs::Answer::reader_start_call))]
     pub fn start(size: u32, first: u32) -> Result<Reader, Refusal>
         ensures { start_of refusal_number result ≡ reader_start_call size first }
     {
@@ -64,6 +65,7 @@ impl Reader {
     }
 
     // What a read refuses before the scan.
+    #[tactic(auto, unfolding(crate::specs::Answer::read_refusal), using(numbers::proofs::Tests::tests))]
     pub fn refusal(
         self,
         length: usize,

@@ -17,84 +17,88 @@ use reader::Reader;
 use std::io::{Read, Write};
 use words::Text;
 
-// The sections are not what document 01 asks for.
-fn run_bad<W: Write>(stdout: &mut W) {
-    let mut text = Text::new();
-    telling::tell_bad(&mut text);
-    output::say(stdout, &text).ok();
+// A program, with what it reads from and writes to.
+#[derive(Drop)]
+pub struct Run<P, R, W> {
+    pub program: P,
+    pub stdin: R,
+    pub stdout: W,
 }
 
-// One group: its image is read, and what is told of it is written. Where that fails the run stops, so that a listing may be cut
-// off and never has a hole.
-fn run_group<P: Program, R: Read, W: Write>(
-    program: &P,
-    stdin: &mut R,
-    stdout: &mut W,
-    reader: Reader,
-    sections: &WholeSections,
-    i: usize,
-) -> Option<Reader>
-    requires { i < sections.now.groups }
-    ensures { Follows P.program i reader sections.now.size (pair_at sections.now.bytes i) result }
-{
-    let size = sections.size as usize;
-    let mut buffer = io::buffer();
-    let image = match input::read_whole(stdin, &mut buffer[..size]) {
-        Ok(()) => Some(&buffer[..size]),
-        Err(_) => None,
-    };
-    let mut text = Text::new();
-    let then = programs::tell_group(program, &mut text, reader, image, &sections.bytes, i);
-    output::say(stdout, &text).ok()?;
-    then
-}
-
-// After the last group: extra bytes, or the end.
-fn run_end<R: Read, W: Write>(stdin: &mut R, stdout: &mut W, reader: Reader) {
-    let mut more = [0u8; 1];
-    let extra = input::read_whole(stdin, &mut more).is_ok();
-    let mut text = Text::new();
-    telling::tell_end(&mut text, reader, extra);
-    output::say(stdout, &text).ok();
-}
-
-// The groups one by one, until one stops the run.
-fn run_groups<P: Program, R: Read, W: Write>(
-    program: &P,
-    stdin: &mut R,
-    stdout: &mut W,
-    reader: Reader,
-    sections: &WholeSections,
-) -> Option<Reader> {
-    let mut state = reader;
-    for i in 0..sections.groups as usize {
-        state = run_group(program, stdin, stdout, state, sections, i)?;
+impl<P: Program, R: Read, W: Write> Run<P, R, W> {
+    // One group: its image is read, and what is told of it is written. Where that fails the run stops, so that a listing may be cut
+    // off and never has a hole.
+    fn group(&mut self, reader: Reader, sections: &WholeSections, i: usize) -> Option<Reader>
+        requires { i < sections.now.groups }
+        ensures { Follows P.program i reader sections.now.size (pair_at sections.now.bytes i) result }
+    {
+        let size = sections.size as usize;
+        let mut buffer = io::buffer();
+        let image = match input::read_whole(&mut self.stdin, &mut buffer[..size]) {
+            Ok(()) => Some(&buffer[..size]),
+            Err(_) => None,
+        };
+        let mut text = Text::new();
+        let then = programs::tell_group(
+            &self.program,
+            &mut text,
+            reader,
+            image,
+            &sections.bytes,
+            i,
+        );
+        output::say(&mut self.stdout, &text).ok()?;
+        then
     }
-    Some(state)
-}
 
-// The run after its sections.
-fn run_images<P: Program, R: Read, W: Write>(
-    program: &P,
-    stdin: &mut R,
-    stdout: &mut W,
-    sections: &WholeSections,
-) {
-    let mut text = Text::new();
-    let started = programs::tell_start(program, &mut text, sections.size, &sections.bytes);
-    output::say(stdout, &text).ok();
-    let Some(first) = started else {
-        return;
-    };
-    if let Some(last) = run_groups(program, stdin, stdout, first, sections) {
-        run_end(stdin, stdout, last);
+    // After the last group: extra bytes, or the end.
+    fn end(&mut self, reader: Reader) {
+        let mut more = [0u8; 1];
+        let extra = input::read_whole(&mut self.stdin, &mut more).is_ok();
+        let mut text = Text::new();
+        telling::tell_end(&mut text, reader, extra);
+        output::say(&mut self.stdout, &text).ok();
     }
-}
 
-// The whole run.
-pub fn run<P: Program, R: Read, W: Write>(program: &P, stdin: &mut R, stdout: &mut W) {
-    match input::read_sections(stdin) {
-        Some(sections) => run_images(program, stdin, stdout, &sections),
-        None => run_bad(stdout),
+    // The groups one by one, until one stops the run.
+    fn groups(&mut self, reader: Reader, sections: &WholeSections) -> Option<Reader> {
+        let mut state = reader;
+        for i in 0..sections.groups as usize {
+            state = self.group(state, sections, i)?;
+        }
+        Some(state)
+    }
+
+    // The run after its sections.
+    fn images(&mut self, sections: &WholeSections) {
+        let mut text = Text::new();
+        let started = programs::tell_start(
+            &self.program,
+            &mut text,
+            sections.size,
+            &sections.bytes,
+        );
+        output::say(&mut self.stdout, &text).ok();
+        let Some(first) = started else {
+            return;
+        };
+        if let Some(last) = self.groups(first, sections) {
+            self.end(last);
+        }
+    }
+
+    // The sections are not what document 01 asks for.
+    fn bad(&mut self) {
+        let mut text = Text::new();
+        telling::tell_bad(&mut text);
+        output::say(&mut self.stdout, &text).ok();
+    }
+
+    // The whole run.
+    pub fn go(&mut self) {
+        match input::read_sections(&mut self.stdin) {
+            Some(sections) => self.images(&sections),
+            None => self.bad(),
+        }
     }
 }

@@ -5,52 +5,38 @@
 ghost use Rattle.std.specs.Prelude.{◌≡◌, ◌/◌, length};
 ghost use Rattle.seek.specs.Find.{begins, beginning, find_call};
 
-// Where a block begins: at this offset of the group, or not in it.
-#[derive(Clone, Copy)]
-pub enum Beginning {
-    At(u32),
-    Elsewhere,
-}
-
 // Whether a row of this kind begins a block: a start's or an entire record's.
 fn begins(kind: u32) -> bool
     ensures { result ≡ begins kind }
 {
-    if kind == 4 {
-        return true;
-    }
-    kind == 6
+    kind == 4 || kind == 6
 }
 
-// Where the b-th block of these rows begins, b from 0.
-fn beginning_among(rows: &[u8], b: u32) -> Beginning
+// Where the b-th block of these rows begins, b from 0; none where it begins elsewhere.
+fn beginning_among(rows: &[u8], b: u32) -> Option<u32>
     ensures { result ≡ beginning rows.now 0 (length rows.now / 12) b }
 {
-    let mut at: usize = 0;
-    let mut left = rows.len() / 12;
     let mut still = b;
-    let found = loop {
-        if left == 0 {
-            break Beginning::Elsewhere;
-        }
+    for row in 0..rows.len() / 12 {
+        let at = 12 * row;
         if begins(numbers::number_at(rows, at)) {
             if still == 0 {
-                break Beginning::At(numbers::number_at(rows, at + 4));
+                return Some(numbers::number_at(rows, at + 4));
             }
-            still = still - 1;
+            still -= 1;
         }
-        left = left - 1;
-        at = at + 12;
-    };
-    found
+    }
+    None
 }
 
-// Where block b begins, from a group's rows and the number of blocks begun before it.
-pub fn find(rows: &[u8], before: u32, b: u32) -> Beginning
+// The offset of the group where block b begins, from a group's rows and the number of blocks begun before it; none where it doesn't
+// begin there.
+#[tactic(auto, unfolding(crate::specs::Find::find_call), using(numbers::proofs::Tests::tests))]
+pub fn find(rows: &[u8], before: u32, b: u32) -> Option<u32>
     ensures { result ≡ find_call rows.now before b }
 {
     if b < before {
-        return Beginning::Elsewhere;
+        return None;
     }
     beginning_among(rows, b - before)
 }

@@ -1,15 +1,13 @@
--- A phase and b4 from their numbers and back, and which numbers of a slice and a call have a meaning.
+-- A phase and b4 from their numbers and back.
 -- Assumes nothing.
 use mathlib.Core.Path.{◌≡◌, refl}
-use mathlib.Core.Bool.{Bool, true, false, ◌&&◌}
-use mathlib.Core.List.{List}
-use Prim.Native.Nat.{ℕ, zero, suc, ◌^◌, ◌≤◌, ◌<◌}
+use mathlib.Core.Bool.{Bool, true, false}
+use Prim.Native.Nat.{ℕ, zero, suc, ◌^◌, ◌<◌}
 use native.Mathlib.Omega.{arith}
-use borrow.Author.Tests.{leb-true, le-leb, lt-leb}
-use Rattle.numbers.specs.Numbers.{field}
+use borrow.Author.Tests.{leb-true}
 use Rattle.group.specs.declared.Phase.{Phase}
 use Rattle.group.specs.declared.Phase.TheVariants.{Free, Inside, Owed}
-use Rattle.states.specs.States.{phase_number, phase_of, phase_meant, b4_number, b4_set, b4_meant, reader_meant, writer_meant}
+use Rattle.states.specs.States.{phase_number, phase_of, phase_meant, b4_number, b4_set, b4_meant}
 
 pub phase_of_number : (p : Phase) → phase_of (phase_number p) ≡ p
 phase_of_number Free = refl
@@ -40,31 +38,3 @@ phase_meant_lem Owed = (omega arith, refl)
 pub b4_meant_lem : (b : Bool) → (b4_number b < 256 ^ 4) × (b4_meant (b4_number b) ≡ true)
 b4_meant_lem false = (omega arith, refl)
 b4_meant_lem true = (omega arith, refl)
-
--- The tests of a reader's slice, one law an exit.
-module _ (slice : List ℕ) where
-  pub reader_unmeant : phase_meant (field slice 2) ≡ false → false ≡ reader_meant slice
-  unfolding reader_meant
-  reader_unmeant h = rw h
-
-  pub reader_b4_unmeant : phase_meant (field slice 2) ≡ true → 1 < field slice 4 → false ≡ reader_meant slice
-  unfolding reader_meant
-  reader_b4_unmeant h k = rw (h, lt-leb (field slice 4) 1 k)
-
-  pub accepted_meant : phase_meant (field slice 2) ≡ true → field slice 4 ≤ 1 → b4_meant (field slice 5) ≡ reader_meant slice
-  unfolding reader_meant
-  accepted_meant h k = rw (h, le-leb (field slice 4) 1 k)
-
--- The tests of a writer's slice and of `warn`, one law an exit.
-module _ (slice : List ℕ) (warn : ℕ) where
-  pub phase_unmeant : phase_meant (field slice 2) ≡ false → false ≡ writer_meant slice && b4_meant warn
-  unfolding writer_meant
-  phase_unmeant h = rw h
-
-  pub b4_unmeant : phase_meant (field slice 2) ≡ true → 1 < field slice 6 → false ≡ writer_meant slice && b4_meant warn
-  unfolding writer_meant
-  b4_unmeant h k = rw (h, lt-leb (field slice 6) 1 k)
-
-  pub warn_meant : phase_meant (field slice 2) ≡ true → field slice 6 ≤ 1 → b4_meant warn ≡ writer_meant slice && b4_meant warn
-  unfolding writer_meant
-  warn_meant h k = rw (h, le-leb (field slice 6) 1 k)

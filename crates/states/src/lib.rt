@@ -26,6 +26,7 @@ pub const READER_LENGTH: usize = 24;
 pub const WRITER_LENGTH: usize = 32;
 
 // Asked from the greatest down, which the compiler makes less of.
+#[tactic(auto, using(numbers::proofs::Tests::tests))]
 fn phase_of(n: u32) -> Phase
     ensures { result ≡ phase_of n }
 {
@@ -47,6 +48,7 @@ fn phase_meant(slice: &[u8]) -> bool
 }
 
 // Whether the phase, b4 and accepted of a reader's slice are numbers that have a meaning.
+#[tactic(auto, unfolding(crate::specs::States::reader_meant), using(numbers::proofs::Tests::tests))]
 pub fn reader_meant(slice: &[u8]) -> bool
     requires { length slice.now ≡ reader_length }
     ensures { result ≡ reader_meant slice.now }
@@ -55,6 +57,7 @@ pub fn reader_meant(slice: &[u8]) -> bool
 }
 
 // Whether the phase and b4 of a writer's slice, and a call's `warn`, are numbers that have a meaning.
+#[tactic(auto, unfolding(crate::specs::States::writer_meant), using(numbers::proofs::Tests::tests))]
 pub fn writer_meant(slice: &[u8], warn: u32) -> bool
     requires { length slice.now ≡ writer_length }
     ensures { result ≡ (writer_meant slice.now && b4_meant warn) }
@@ -76,45 +79,47 @@ fn run_of(slice: &[u8]) -> Run
 }
 
 // The state that a reader's slice holds.
+#[tactic(auto, unfolding(crate::specs::States::reader_of))]
 pub fn reader_of(slice: &[u8]) -> Reader
     requires { length slice.now ≡ reader_length }
     ensures { result ≡ reader_of slice.now }
 {
-    let run = run_of(slice);
+    let Run {
+        size,
+        next,
+        phase,
+        sum,
+    } = run_of(slice);
     Reader {
-        size: run.size,
-        next: run.next,
-        phase: run.phase,
+        size,
+        next,
+        phase,
         warned: numbers::number_at(slice, 16) == 1,
         accepted: numbers::number_at(slice, 20) == 1,
-        sum: run.sum,
-    }
-}
-
-// A writer's state from its slice and what that begins with.
-fn writer_behind(run: Run, slice: &[u8]) -> Writer
-    requires slice_len { length slice.now ≡ writer_length }
-    requires run_value { run ≡ run_of slice.now }
-    ensures { result ≡ writer_of slice.now }
-{
-    let phase = run.phase;
-    Writer {
-        size: run.size,
-        next: run.next,
-        phase,
-        warned: numbers::number_at(slice, 24) == 1,
-        sum: run.sum,
-        rest: numbers::number_at(slice, 28),
-        filled: numbers::number_at(slice, 16),
-        entries: numbers::number_at(slice, 20),
+        sum,
     }
 }
 
 // The state that a writer's slice holds.
+#[tactic(auto, unfolding(crate::specs::States::writer_of))]
 pub fn writer_of(slice: &[u8]) -> Writer
     requires { length slice.now ≡ writer_length }
     ensures { result ≡ writer_of slice.now }
 {
-    let run = run_of(slice);
-    writer_behind(run, slice)
+    let Run {
+        size,
+        next,
+        phase,
+        sum,
+    } = run_of(slice);
+    Writer {
+        size,
+        next,
+        phase,
+        warned: numbers::number_at(slice, 24) == 1,
+        sum,
+        rest: numbers::number_at(slice, 28),
+        filled: numbers::number_at(slice, 16),
+        entries: numbers::number_at(slice, 20),
+    }
 }

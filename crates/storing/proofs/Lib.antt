@@ -1,2 +1,3 @@
 -- The laws that the proofs of this crate share.
 pub mod Fresh
+pub mod Casts

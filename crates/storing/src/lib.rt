@@ -53,6 +53,7 @@ pub fn put_writer(slice: &mut [u8], w: Writer)
 }
 
 // A fresh state, a reader's or a writer's: its size, its next number, and zeros. What the slice held is not looked at.
+#[tactic(auto, using(crate::proofs::Fresh::two_over_zeros))]
 pub fn begin(slice: &mut [u8], size: u32, first: u32)
     requires { 8 ≤ length slice.old }
     ensures { (n : ℕ) → length slice.old ≡ 8 + 4 * n → slice.new ≡ in_bytes (size ∷ first ∷ replicate n 0) }

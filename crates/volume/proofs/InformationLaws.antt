@@ -5,20 +5,22 @@ use mathlib.Core.Bool.{Bool, true, false, cond, not}
 use mathlib.Core.List.{List, ◌++◌}
 use Prim.Native.Nat.{ℕ, zero, suc, ◌+◌, ◌-◌, ◌≤◌, ◌<◌}
 use native.Mathlib.Omega.{arith}
-use borrow.Author.Tests.{eq-eqb, ne_eqb, eqb-true, le-leb, lt-leb, leb-true, not-false}
-use lib.Dec.{T, eqb}
-use lib.Bits.{bit_and}
+use borrow.Author.Tests.{eq-eqb, eqb-true, leb-true, not-false}
+use lib.Dec.{eqb}
 use lib.ListN.{length, get_or, take, drop, replicate, length-append, length-drop, length-replicate, take-append-drop}
 use lib.Seq.{length-take-le, take_at, drop_at, drop-drop, get_or-take, get_or-drop}
 use Rattle.answer.specs.Answer as answer
 use Rattle.answer.specs.Answer.{if_accepted}
 use Rattle.numbers.specs.Store.{put, zeros}
 use Rattle.numbers.proofs.Stores.{put_put, put_whole, take_rest, zeros_are}
-use Rattle.numbers.proofs.Computed.{every, below}
 use Rattle.numbers.proofs.Tests.{both, passed}
-use Rattle.volume.specs.declared.VolumeAnswer.{VolumeAnswer}
-use Rattle.volume.specs.declared.VolumeAnswer.TheVariants.{TypeA, TypeB, Refused}
-use Rattle.volume.specs.Information.{volume_length, fields_length, length_and_thickness, flags, volume_of, fields_of, lengths_kept, reserved_kept, thickness, thickness_kept, flags_kept}
+use Rattle.std.specs.Prelude.{Err}
+use Rattle.answer.specs.declared.refusals.LoaderRefusal.{LoaderRefusal}
+use Rattle.answer.specs.Numbers.{loader_number}
+use Rattle.answer.specs.NotZero.{loader_not_zero}
+use Rattle.volume.specs.Information.{VolumeAnswer, answered}
+use Rattle.volume.specs.Information.{TypeA, TypeB, Refused}
+use Rattle.volume.specs.Information.{volume_length, fields_length, length_and_thickness, flags, volume_of, fields_of, lengths_kept, reserved_kept, thickness, thickness_kept}
 use Rattle.volume.specs.Information.{byte_refusal, make_refusal, read_refusal, type_of, answer_of, refusal_of, told}
 
 -- The volume, stored in three pieces.
@@ -37,66 +39,19 @@ unfolding fields_of
 fields_stored volume old f₁ wide long e =
     e ∙ put_whole old (take 37 (drop 3 volume)) (length-take-le 37 (drop 3 volume) (omega (arith, length-drop 3 volume)) ∙ sym wide)
 
--- A mask's test is the two rules of the Flags where it is so at every byte, which is one computation.
-abbrev pub agree : Bool → Bool → Bool
-agree true b = b
-agree false b = not b
-
-agreed : (a b : Bool) → T (agree a b) → a ≡ b
-agreed true true t = refl
-agreed true false t = absurd t
-agreed false true t = absurd t
-agreed false false t = refl
-
-abbrev pub masked : (mask left byte : ℕ) → Bool
-masked mask left byte = agree (eqb (bit_and byte mask) left) (flags_kept byte)
-
-pub flags_masked : (mask left : ℕ) → T (every (masked mask left) 0 256) → (byte : ℕ) → byte < 256 → eqb (bit_and byte mask) left ≡ flags_kept byte
-flags_masked mask left all byte h = agreed (eqb (bit_and byte mask) left) (flags_kept byte) (below (masked mask left) 256 all byte h)
-
 -- What stands in a volume among its fields.
 pub field_at : (volume : List ℕ) (i : ℕ) → i < 37 → get_or (fields_of volume) i 0 ≡ get_or volume (3 + i) 0
 unfolding fields_of
 field_at volume i less = get_or-take 37 (drop 3 volume) i 0 less ∙ get_or-drop 3 volume i 0
 
--- What the two bytes that have a rule refuse.
-module _ (byte flags t : ℕ) (is : t ≡ thickness byte) where
-  pub thickness_prohibited : 1 < t → 62 ≡ byte_refusal byte flags
-  unfolding byte_refusal
-  thickness_prohibited h = rw (← is, lt-leb t 1 h)
-
-  pub flags_prohibited : t ≤ 1 → flags_kept flags ≡ false → 63 ≡ byte_refusal byte flags
-  unfolding byte_refusal
-  flags_prohibited h e = rw (← is, le-leb t 1 h, e)
-
-  pub bytes_kept : t ≤ 1 → flags_kept flags ≡ true → 0 ≡ byte_refusal byte flags
-  unfolding byte_refusal
-  bytes_kept h e = rw (← is, le-leb t 1 h, e)
-
 -- What making refuses, by its lengths and its bytes.
 module _ (fields : List ℕ) (volume : ℕ) where
-  pub make_fields : (length fields ≡ 37 → ⊥) → 60 ≡ make_refusal fields volume
-  unfolding make_refusal
-  make_fields h = rw (ne_eqb (length fields) 37 h)
-
-  pub make_volume : length fields ≡ 37 → (volume ≡ 72 → ⊥) → 60 ≡ make_refusal fields volume
-  unfolding make_refusal
-  make_volume e h = rw (eq-eqb (length fields) 37 e, ne_eqb volume 72 h)
-
   pub make_bytes : length fields ≡ 37 → volume ≡ 72 → byte_refusal (get_or fields 2 0) (get_or fields 3 0) ≡ make_refusal fields volume
   unfolding make_refusal
   make_bytes e f = rw (eq-eqb (length fields) 37 e, eq-eqb volume 72 f)
 
 -- What reading refuses, by its lengths, the reserved bytes and the others.
 module _ (volume : List ℕ) (fields : ℕ) where
-  pub read_fields : (fields ≡ 37 → ⊥) → 60 ≡ read_refusal volume fields
-  unfolding read_refusal
-  read_fields h = rw (ne_eqb fields 37 h)
-
-  pub read_volume : fields ≡ 37 → (length volume ≡ 72 → ⊥) → 60 ≡ read_refusal volume fields
-  unfolding read_refusal
-  read_volume e h = rw (eq-eqb fields 37 e, ne_eqb (length volume) 72 h)
-
   pub read_before : fields ≡ 37 → length volume ≡ 72 → zeros (take 3 volume) ≡ false → 61 ≡ read_refusal volume fields
   unfolding read_refusal
   read_before e f g = rw (eq-eqb fields 37 e, eq-eqb (length volume) 72 f, g)
@@ -143,13 +98,13 @@ read_kept volume fields e =
     record { long = lengths fields (length volume) (not-false _ p.0); before = r.0; behind = r.1; bytes = q.1 }
 
 -- What a call answers and leaves, where it refuses and where it does not.
-pub refused_answer : (r refusal : ℕ) (fields : List ℕ) → r ≡ refusal → (r ≡ 0 → ⊥) → Refused r ≡ answer_of refusal fields
+pub refused_answer : (r : LoaderRefusal) (refusal : ℕ) (fields : List ℕ) → loader_number r ≡ refusal → answered (Err r) ≡ answer_of refusal fields
 unfolding answer_of
-refused_answer r refusal fields e h = rw (← e, ne_eqb r 0 h)
+refused_answer r refusal fields e = rw (← e, loader_not_zero r)
 
-pub accepted_answer : (r refusal : ℕ) (fields : List ℕ) (a : VolumeAnswer) → r ≡ refusal → r ≡ 0 → a ≡ type_of (length_and_thickness fields) → a ≡ answer_of refusal fields
+pub accepted_answer : (refusal : ℕ) (fields : List ℕ) (a : VolumeAnswer) → 0 ≡ refusal → a ≡ type_of (length_and_thickness fields) → a ≡ answer_of refusal fields
 unfolding answer_of
-accepted_answer r refusal fields a e z f = rw (← e, z) f
+accepted_answer refusal fields a e f = rw (← e) f
 
 pub typed_left : (byte : ℕ) (new old : List ℕ) → if_accepted (told (type_of byte)) new old ≡ new
 typed_left byte new old = by (eqb (thickness byte) 0) _ _ refl refl

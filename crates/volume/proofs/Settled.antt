@@ -4,7 +4,7 @@ use mathlib.Core.Path.{◌≡◌, sym, ap, ◌∙◌}
 use mathlib.Core.List.{List}
 use Prim.Native.Nat.{ℕ}
 use Rattle.answer.specs.Answer.{if_accepted}
-use Rattle.volume.specs.declared.VolumeAnswer.{VolumeAnswer}
+use Rattle.volume.specs.Information.{VolumeAnswer}
 use Rattle.volume.specs.Information.{Makes, Reads, told}
 
 -- What two equal answers leave in a slice.

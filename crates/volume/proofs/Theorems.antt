@@ -4,7 +4,7 @@ use mathlib.Core.Path.{◌≡◌, sym, ap, ◌∙◌}
 use mathlib.Core.List.{List}
 use Prim.Native.Nat.{ℕ}
 use lib.ListN.{length}
-use Rattle.volume.specs.declared.VolumeAnswer.{VolumeAnswer}
+use Rattle.volume.specs.Information.{VolumeAnswer}
 use Rattle.volume.specs.Information.{volume_of, fields_of, make_refusal, read_refusal, refusal_of, Makes, Reads}
 use Rattle.volume.proofs.InformationLaws.{make_kept, read_kept, none_refused, filled, make_accepts, read_accepts, fields_made, zeros_before, zeros_behind, length_volume, length_fields, volume_again}
 

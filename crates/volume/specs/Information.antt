@@ -1,12 +1,26 @@
 -- Source document 001, 16.4.2.2 and figure 46: Volume Information, what making and reading it answer, and what they leave.
 -- Assumes nothing.
-use Rattle.std.specs.Prelude.{ℕ, ◌+◌, ◌/◌, ◌%◌, ◌≡◌, List, ◌++◌, Bool, cond, not, ◌&&◌, eqb, leb, length, get_or, take, drop, replicate}
+use Rattle.std.specs.Prelude.{ℕ, ◌+◌, ◌/◌, ◌%◌, ◌≡◌, List, ◌++◌, Bool, cond, not, ◌&&◌, eqb, leb, length, get_or, take, drop, replicate, Result, Ok, Err}
 use Rattle.numbers.specs.Store.{zeros}
 use Rattle.answer.specs.Answer.{Told}
 use Rattle.answer.specs.Answer as answer
 use Rattle.answer.specs.Answer.{refusal_told, if_accepted}
-use Rattle.volume.specs.declared.VolumeAnswer.{VolumeAnswer}
-use Rattle.volume.specs.declared.VolumeAnswer.TheVariants.{TypeA, TypeB, Refused}
+use Rattle.answer.specs.declared.refusals.LoaderRefusal.{LoaderRefusal}
+use Rattle.answer.specs.Numbers.{loader_number}
+use Rattle.volume.specs.declared.TapeType.{TapeType}
+use Rattle.volume.specs.declared.TapeType.TheVariants as tape
+
+-- What making and reading answer: the tape's type, or the number of the refusal.
+pub data VolumeAnswer : Type 0 where
+  TypeA : VolumeAnswer
+  TypeB : VolumeAnswer
+  Refused : (refusal : ℕ) → VolumeAnswer
+
+-- What a result of the code answers.
+abbrev pub answered : Result TapeType LoaderRefusal → VolumeAnswer
+answered (Ok tape.A) = TypeA
+answered (Ok tape.B) = TypeB
+answered (Err refusal) = Refused (loader_number refusal)
 
 -- 16.4.2.2: "This 72-byte field"
 abbrev pub volume_length : ℕ

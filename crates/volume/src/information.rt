@@ -1,8 +1,13 @@
 // Volume Information: what making and reading it refuse, its bytes from its fields and its fields from its bytes.
 ghost use Rattle.std.specs.Prelude.{◌≡◌, length};
-ghost use Rattle.volume.specs.Information.{volume_length, fields_length, volume_of, fields_of, type_of, thickness, flags_kept, byte_refusal, make_refusal, read_refusal};
+ghost use Rattle.std.specs.Prelude.{Ok};
+ghost use Rattle.answer.specs.Numbers.{loader_number};
+ghost use Rattle.answer.specs.Results.{number_of};
+ghost use Rattle.volume.specs.Information.{answered, volume_length, fields_length, volume_of, fields_of, type_of, thickness, flags_kept, byte_refusal, make_refusal, read_refusal};
 
-use crate::{Volume, VolumeAnswer};
+use crate::{TapeType, Volume};
+use answer::refusals::LoaderRefusal;
+use numbers::bytes;
 
 // The thickness number: the two top bits of the byte, whose others are the length number.
 fn thickness_of(byte: u8) -> u8
@@ -18,59 +23,56 @@ fn flags_kept(flags: u8) -> bool
     flags & 0xF0 == 0x10
 }
 
-// The number of what the two bytes that have a rule refuse, 0 if nothing.
-fn byte_refusal(byte: u8, flags: u8) -> u32
-    ensures { result ≡ byte_refusal byte flags }
+// What the two bytes that have a rule refuse.
+#[tactic(auto, unfolding(crate::specs::Information::byte_refusal), using(numbers::proofs::Tests::tests))]
+fn byte_refusal(byte: u8, flags: u8) -> Result<(), LoaderRefusal>
+    ensures { number_of loader_number result ≡ byte_refusal byte flags }
 {
     if thickness_of(byte) > 1 {
-        return 62;
+        return Err(LoaderRefusal::Thickness);
     }
     if !flags_kept(flags) {
-        return 63;
+        return Err(LoaderRefusal::Flags);
     }
-    0
+    Ok(())
 }
 
-// The number of making's refusal, 0 if it is accepted.
-pub(crate) fn make_refusal(fields: &[u8], volume: usize) -> u32
-    ensures { result ≡ make_refusal fields.now volume }
+// What making refuses.
+#[tactic(auto, unfolding(crate::specs::Information::make_refusal), using(numbers::proofs::Tests::tests))]
+pub(crate) fn make_refusal(fields: &[u8], volume: usize) -> Result<(), LoaderRefusal>
+    ensures { number_of loader_number result ≡ make_refusal fields.now volume }
 {
-    if fields.len() != Volume::FIELDS_LENGTH {
-        return 60;
-    }
-    if volume != Volume::LENGTH {
-        return 60;
+    if fields.len() != Volume::FIELDS_LENGTH || volume != Volume::LENGTH {
+        return Err(LoaderRefusal::Length);
     }
     byte_refusal(fields[2], fields[3])
 }
 
-// The number of reading's refusal, 0 if it is accepted.
-pub(crate) fn read_refusal(volume: &[u8], fields: usize) -> u32
-    ensures { result ≡ read_refusal volume.now fields }
+// What reading refuses.
+#[tactic(auto, unfolding(crate::specs::Information::read_refusal), using(numbers::proofs::Tests::tests))]
+pub(crate) fn read_refusal(volume: &[u8], fields: usize) -> Result<(), LoaderRefusal>
+    ensures { number_of loader_number result ≡ read_refusal volume.now fields }
 {
-    if fields != Volume::FIELDS_LENGTH {
-        return 60;
+    if fields != Volume::FIELDS_LENGTH || volume.len() != Volume::LENGTH {
+        return Err(LoaderRefusal::Length);
     }
-    if volume.len() != Volume::LENGTH {
-        return 60;
-    }
-    if !numbers::bytes::are_zeros(&volume[..Volume::FIELDS_BEGIN]) {
-        return 61;
-    }
-    if !numbers::bytes::are_zeros(&volume[Volume::FIELDS_END..]) {
-        return 61;
+    let before = &volume[..Volume::FIELDS_BEGIN];
+    let behind = &volume[Volume::FIELDS_END..];
+    if !bytes::are_zeros(before) || !bytes::are_zeros(behind) {
+        return Err(LoaderRefusal::Reserved);
     }
     byte_refusal(volume[5], volume[6])
 }
 
 // The type that an allowed thickness indicates.
-pub(crate) fn type_of(byte: u8) -> VolumeAnswer
-    ensures { result ≡ type_of byte }
+pub(crate) fn type_of(byte: u8) -> TapeType
+    ensures { answered (Ok result) ≡ type_of byte }
 {
     if thickness_of(byte) == 0 {
-        return VolumeAnswer::TypeA;
+        TapeType::A
+    } else {
+        TapeType::B
     }
-    VolumeAnswer::TypeB
 }
 
 // The fields between the reserved bytes, over all that stood in the slice.
@@ -78,9 +80,9 @@ pub(crate) fn put_volume(volume: &mut [u8], fields: &[u8])
     requires { (length volume.old ≡ volume_length) × (length fields.now ≡ fields_length) }
     ensures { volume.new ≡ volume_of fields.now }
 {
-    numbers::bytes::put_zeros(volume, 0, Volume::FIELDS_BEGIN);
-    numbers::bytes::put_bytes(volume, Volume::FIELDS_BEGIN, fields);
-    numbers::bytes::put_zeros(volume, Volume::FIELDS_END, Volume::LENGTH);
+    bytes::put_zeros(volume, 0, Volume::FIELDS_BEGIN);
+    bytes::put_bytes(volume, Volume::FIELDS_BEGIN, fields);
+    bytes::put_zeros(volume, Volume::FIELDS_END, Volume::LENGTH);
 }
 
 // What stands between the reserved bytes, over all that stood in the slice.
@@ -88,5 +90,5 @@ pub(crate) fn put_fields(fields: &mut [u8], volume: &[u8])
     requires { (length fields.old ≡ fields_length) × (length volume.now ≡ volume_length) }
     ensures { fields.new ≡ fields_of volume.now }
 {
-    numbers::bytes::put_bytes(fields, 0, &volume[Volume::FIELDS_BEGIN..Volume::FIELDS_END]);
+    bytes::put_bytes(fields, 0, &volume[Volume::FIELDS_BEGIN..Volume::FIELDS_END]);
 }

@@ -4,18 +4,19 @@
 
 mod information;
 
-ghost use Rattle.volume.specs.Information.{Makes, Reads};
+ghost use Rattle.volume.specs.Information.{Makes, Reads, answered};
+
+use answer::refusals::LoaderRefusal;
 
 // Volume Information: its length, the length of its fields, and where they begin and end in it.
-#[derive(Clone, Copy)]
+#[derive(Clone, Copy, Debug, PartialEq, Eq)]
 pub struct Volume {}
 
-// What making and reading Volume Information answer: the tape's type by its thickness.
-#[derive(Clone, Copy)]
-pub enum VolumeAnswer {
-    TypeA,
-    TypeB,
-    Refused(u32),
+// The tape's type, which making and reading Volume Information answer, by its thickness.
+#[derive(Clone, Copy, Debug, PartialEq, Eq)]
+pub enum TapeType {
+    A,
+    B,
 }
 
 impl Volume {
@@ -28,26 +29,20 @@ impl Volume {
     pub const FIELDS_END: usize = 40;
 
     // Volume Information from its fields.
-    pub fn make(fields: &[u8], volume: &mut [u8]) -> VolumeAnswer
-        ensures { Makes fields.now volume.old result volume.new }
+    pub fn make(fields: &[u8], volume: &mut [u8]) -> Result<TapeType, LoaderRefusal>
+        ensures { Makes fields.now volume.old (answered result) volume.new }
     {
-        let refusal = information::make_refusal(fields, volume.len());
-        if refusal != 0 {
-            return VolumeAnswer::Refused(refusal);
-        }
+        information::make_refusal(fields, volume.len())?;
         information::put_volume(volume, fields);
-        information::type_of(fields[2])
+        Ok(information::type_of(fields[2]))
     }
 
     // The fields of Volume Information.
-    pub fn read(volume: &[u8], fields: &mut [u8]) -> VolumeAnswer
-        ensures { Reads volume.now fields.old result fields.new }
+    pub fn read(volume: &[u8], fields: &mut [u8]) -> Result<TapeType, LoaderRefusal>
+        ensures { Reads volume.now fields.old (answered result) fields.new }
     {
-        let refusal = information::read_refusal(volume, fields.len());
-        if refusal != 0 {
-            return VolumeAnswer::Refused(refusal);
-        }
+        information::read_refusal(volume, fields.len())?;
         information::put_fields(fields, volume);
-        information::type_of(volume[5])
+        Ok(information::type_of(volume[5]))
     }
 }

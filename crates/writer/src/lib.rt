@@ -10,7 +10,8 @@ ghost use Rattle.writer.specs.Calls.{Meets, record_call, separator_call, end_cal
 
 use answer::refusals::Refusal;
 use group::Phase;
-use laying::{Writer, lay};
+use laying::Writer;
+use laying::desk::Desk;
 
 // What a call that is not refused did: with room left in the group, or the group closed, whose number, entries with the skip, and bytes
 // that the call took stand with the state.
@@ -31,11 +32,11 @@ pub fn record(given: Writer, group: &mut [u8], data: &[u8], warn: bool) -> Resul
     ensures { Meets (record_call «data».now warn (desk given group.old)) (answer_of given result) group.new }
 {
     sound::record_refusal(given, group.len(), data.len())?;
-    let w = lay::ready(given, group, warn);
+    let mut desk = Desk::ready(given, group, warn);
     if given.phase == Phase::Inside {
-        Ok(calls::record_inside(w, group, data))
+        Ok(calls::record_inside(&mut desk, data))
     } else {
-        Ok(calls::record_free(w, group, data))
+        Ok(calls::record_free(&mut desk, data))
     }
 }
 
@@ -50,8 +51,8 @@ pub fn separator(
     ensures { Meets (separator_call value warn (desk given group.old)) (answer_of given result) group.new }
 {
     sound::separator_refusal(given, group.len(), value)?;
-    let w = lay::ready(given, group, warn);
-    Ok(calls::separator(w, group, value))
+    let mut desk = Desk::ready(given, group, warn);
+    Ok(calls::separator(&mut desk, value))
 }
 
 // The end of the run's data: a group that holds an entry, or that a total is owed to, is closed.
@@ -63,6 +64,6 @@ pub fn end(given: Writer, group: &mut [u8], warn: bool) -> Result<Written, Refus
     if sound::ends_empty(given) {
         return Ok(Written::Finished(given));
     }
-    let w = lay::ready(given, group, warn);
-    Ok(calls::close(w, group, 0))
+    let mut desk = Desk::ready(given, group, warn);
+    Ok(calls::close(&mut desk, 0))
 }

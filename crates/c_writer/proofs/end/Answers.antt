@@ -21,7 +21,7 @@ pub returns : goal.returns
 unfolding dds_end call
 returns c =
     let a = c.args in
-    laws.call_done _ _ _ _ c.refused.ensures (an_end (b4_set a.warn)) _ _ c.if-refused.false c.writer_of-writer.ensures c.end-done.ensures c.finish.ensures.state_after c.finish.ensures.tells
+    laws.call_done _ _ _ _ c.refused.ensures (an_end (b4_set a.warn)) _ _ c.if-refused.false c.writer_of-writer.ensures c.end-done.ensures (c.finish.ensures.state_after c.writer_of-writer.result) (c.finish.ensures.tells c.writer_of-writer.result)
 
 pub writer_of-writer-requires : goal.writer_of-writer-requires
 writer_of-writer-requires c = (long (goal.at.writer_of-writer-requires c).Else-refused).0

@@ -8,6 +8,7 @@ use Rattle.numbers.specs.Numbers.{bytes_of}
 use Rattle.numbers.specs.Store.{put}
 use Rattle.numbers.proofs.InBytes.{puts, puts_whole, put_standing}
 use Rattle.states.specs.States.{phase_number, b4_number, reader_bytes}
+use Rattle.storing.proofs.Casts.{phase_cast, b4_cast}
 use Rattle.storing.proofs.put_next.Goals.{After-number_at-next}
 use Rattle.storing.proofs.put_next.Goals as goal
 
@@ -20,7 +21,7 @@ returns c =
     let a = c.args in
     let stands = put_standing a.slice.now 0 a.r.size (λ i. omega (arith, c.slice_known-1.given i)) (omega arith) (sym c.requires.1.size) in
     let changed : List ℕ = a.r.next ∷ phase_number a.r.phase ∷ a.r.sum ∷ b4_number a.r.warned ∷ 1 ∷ [] in
-    rw (c.put_number-2.ensures, c.keep-3.ensures, c.keep-2.ensures, c.keep.ensures, c.put_number.ensures ∙ ap (λ (m : ℕ). put a.slice.now 4 (bytes_of 4 m)) (next_is_lem (goal.at.returns c).After-number_at-next), c.b4_number-b4.ensures, c.phase_number-phase.ensures)
+    rw (c.put_number-2.ensures, c.keep-3.ensures, c.keep-2.ensures, c.keep.ensures, c.put_number.ensures ∙ ap (λ (m : ℕ). put a.slice.now 4 (bytes_of 4 m)) (next_is_lem (goal.at.returns c).After-number_at-next), c.from.ensures, b4_cast a.r.warned, phase_cast a.r.phase)
     (ap (λ (l : List ℕ). puts l 4 changed) stands
     ∙ puts_whole a.slice.now (a.r.size ∷ changed) c.requires.0
     ∙ ap (λ (said : Bool). reader_bytes (record { size = a.r.size; next = a.r.next; phase = a.r.phase; warned = a.r.warned; accepted = said; sum = a.r.sum })) (sym c.requires.1.accepted))
