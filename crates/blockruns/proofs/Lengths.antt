@@ -9,6 +9,7 @@ use mathlib.Core.Path.{◌≡◌, refl, ap, ◌∙◌}
 use lib.Dec.{eqb}
 use lib.ListN.{length}
 use borrow.Author.Tests.{eqb-true, eq-eqb}
+use Rattle.std.specs.Prelude.{Option, Some, None}
 use Rattle.group.specs.declared.Kind.TheVariants.{Total, Separator, Middle, Start, Last, Entire, Skip}
 use Rattle.group.proofs.FlagLaws.{meaning_of_flag}
 use Rattle.layout.specs.Items.{Item, Laid, Tail, Piece, Token, Each, items, tokens, tail_tokens, middles, late_by, whole_of}
@@ -104,7 +105,7 @@ records_of_lengths (record_item bs ∷ is) (each_more h x) = each_more h (record
 records_of_lengths (separator_item v ∷ is) x = each_more tt (records_of_lengths is x)
 
 -- No entry of pieces breaks the block rule just where they tell the block size.
-pub none_other : {block : ℕ} (plain over place : ℕ) (ps : List Piece) → Each (Is block) (lengths_of ps) → other_at block (entries_of plain over ps) place ≡ 0
+pub none_other : {block : ℕ} (plain over place : ℕ) (ps : List Piece) → Each (Is block) (lengths_of ps) → other_at block (entries_of plain over ps) place ≡ None
 unfolding other_at entries_of lengths_of kind_of count_of
 none_other plain over place [] x = rw (meaning_of_flag Skip (b4_after plain))
 none_other {block} plain over place (a_total n ∷ ps) (each_more h x) = rw (meaning_of_flag Total (b4_after plain), eq-eqb n block h) (none_other (plain_left plain) over (suc place) ps x)
@@ -115,23 +116,23 @@ none_other plain over place (a_last bs ∷ ps) x = rw (meaning_of_flag Last (b4_
 none_other {block} plain over place (an_entire bs ∷ ps) (each_more h x) =
     rw (meaning_of_flag Entire (b4_after plain), eq-eqb (length bs) block h) (none_other (plain_left plain) over (suc place) ps x)
 
-told : (n block place rest : ℕ) → 1 ≤ place → cond (eqb n block) rest place ≡ 0 → (n ≡ block) × (rest ≡ 0)
-told n block place rest some e = by (eqb n block) refl e
+told : (n block place : ℕ) (rest : Option ℕ) → cond (eqb n block) rest (Some place) ≡ None → (n ≡ block) × (rest ≡ None)
+told n block place rest e = by (eqb n block) refl e
   where
-    by : (b : Bool) → eqb n block ≡ b → cond b rest place ≡ 0 → (n ≡ block) × (rest ≡ 0)
+    by : (b : Bool) → eqb n block ≡ b → cond b rest (Some place) ≡ None → (n ≡ block) × (rest ≡ None)
     by true x h = (eqb-true n block x, h)
-    by false x h = absurd (omega arith)
+    by false x h = let z : ◌≡◌ {A = ℕ} 0 1 = cc in absurd (omega arith)
 
-pub all_told : {block : ℕ} (plain over place : ℕ) (ps : List Piece) → 1 ≤ place → other_at block (entries_of plain over ps) place ≡ 0 → Each (Is block) (lengths_of ps)
+pub all_told : {block : ℕ} (plain over place : ℕ) (ps : List Piece) → other_at block (entries_of plain over ps) place ≡ None → Each (Is block) (lengths_of ps)
 unfolding other_at entries_of lengths_of kind_of count_of
-all_told plain over place [] some e = each_none
-all_told {block} plain over place (a_total n ∷ ps) some e =
-    let (h, r) = told n block place (other_at block (entries_of (plain_left plain) over ps) (suc place)) some (rw (meaning_of_flag Total (b4_after plain)) at e) in
-    each_more h (all_told (plain_left plain) over (suc place) ps (omega arith) r)
-all_told plain over place (a_separator v ∷ ps) some e = all_told (plain_left plain) over (suc place) ps (omega arith) (rw (meaning_of_flag Separator (b4_after plain)) at e)
-all_told plain over place (a_middle bs ∷ ps) some e = all_told (plain_left plain) over (suc place) ps (omega arith) (rw (meaning_of_flag Middle (b4_after plain)) at e)
-all_told plain over place (a_start bs ∷ ps) some e = all_told (plain_left plain) over (suc place) ps (omega arith) (rw (meaning_of_flag Start (b4_after plain)) at e)
-all_told plain over place (a_last bs ∷ ps) some e = all_told (plain_left plain) over (suc place) ps (omega arith) (rw (meaning_of_flag Last (b4_after plain)) at e)
-all_told {block} plain over place (an_entire bs ∷ ps) some e =
-    let (h, r) = told (length bs) block place (other_at block (entries_of (plain_left plain) over ps) (suc place)) some (rw (meaning_of_flag Entire (b4_after plain)) at e) in
-    each_more h (all_told (plain_left plain) over (suc place) ps (omega arith) r)
+all_told plain over place [] e = each_none
+all_told {block} plain over place (a_total n ∷ ps) e =
+    let (h, r) = told n block place (other_at block (entries_of (plain_left plain) over ps) (suc place)) (rw (meaning_of_flag Total (b4_after plain)) at e) in
+    each_more h (all_told (plain_left plain) over (suc place) ps r)
+all_told plain over place (a_separator v ∷ ps) e = all_told (plain_left plain) over (suc place) ps (rw (meaning_of_flag Separator (b4_after plain)) at e)
+all_told plain over place (a_middle bs ∷ ps) e = all_told (plain_left plain) over (suc place) ps (rw (meaning_of_flag Middle (b4_after plain)) at e)
+all_told plain over place (a_start bs ∷ ps) e = all_told (plain_left plain) over (suc place) ps (rw (meaning_of_flag Start (b4_after plain)) at e)
+all_told plain over place (a_last bs ∷ ps) e = all_told (plain_left plain) over (suc place) ps (rw (meaning_of_flag Last (b4_after plain)) at e)
+all_told {block} plain over place (an_entire bs ∷ ps) e =
+    let (h, r) = told (length bs) block place (other_at block (entries_of (plain_left plain) over ps) (suc place)) (rw (meaning_of_flag Entire (b4_after plain)) at e) in
+    each_more h (all_told (plain_left plain) over (suc place) ps r)

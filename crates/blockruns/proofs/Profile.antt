@@ -5,9 +5,8 @@ use native.Mathlib.Omega.{arith}
 use mathlib.Core.List.{List, [], ◌∷◌, ◌++◌}
 use mathlib.Core.Bool.{Bool, true, false, cond, false≢true}
 use mathlib.Core.Path.{◌≡◌, refl, sym, ap, ◌∙◌, subst}
-use lib.Dec.{eqb}
 use lib.ListN.{length}
-use borrow.Author.Tests.{eqb-true, eqb-false}
+use Rattle.std.specs.Prelude.{Option, Some, None}
 use Rattle.group.specs.declared.Entry.{Entry}
 use Rattle.group.specs.Flags.{meaning_of}
 use Rattle.group.specs.Sizes.{information_length, longest_record}
@@ -42,7 +41,7 @@ use Rattle.blockruns.proofs.Lengths.{Is, lengths_of, lengths_append, each_join, 
 
 -- No entry of the group is of another length.
 abbrev pub Kept : (block size : ℕ) → Image → Type 0
-Kept block size g = other_at block (entries_below g.bytes (size - information_length) g.entries) 1 ≡ 0
+Kept block size g = other_at block (entries_below g.bytes (size - information_length) g.entries) 1 ≡ None
 
 -- What an accepted group leaves of the size, and the numbers around it.
 record Left (s t : Reader) (g : Image) : Type 0 where
@@ -143,8 +142,8 @@ unfolding flat grouped lengths_of
 lengths_told h run_none w x = each_none
 lengths_told {block} {size} h (run_more {plain} {ps = ps} {pss = pss} {g = g} a b f r) w (each_more k ks) =
     let q = past ps (grouped pss) w in
-    let one : other_at block (entries_of plain (size - length (user_data ps)) ps) 1 ≡ 0 = rw (entries_back f h q.small) at k in
-    rw (lengths_append ps (flat pss)) (each_join (all_told plain (size - length (user_data ps)) 1 ps (omega arith) one) (lengths_told h r q.goes ks))
+    let one : other_at block (entries_of plain (size - length (user_data ps)) ps) 1 ≡ None = rw (entries_back f h q.small) at k in
+    rw (lengths_append ps (flat pss)) (each_join (all_told plain (size - length (user_data ps)) 1 ps one) (lengths_told h r q.goes ks))
 
 pub rule_kept : {block size plain number n sum reached : ℕ} {to at : Stand} {groups : List (List Piece)} {run : List Image} → size ≤ longest_record → Run size plain number groups run →
     Walk size to n at sum reached (grouped groups) → Each (Is block) (lengths_of (flat groups)) → Each (Kept block size) run
@@ -157,25 +156,25 @@ rule_kept {block} {size} h (run_more {plain} {ps = ps} {pss = pss} {g = g} a b f
     each_more one (rule_kept h r q.goes (each_right (lengths_of ps) (lengths_of (flat pss)) y))
 
 -- The place of an entry of another length is one of theirs.
-other_place : (block : ℕ) (es : List Entry) (place : ℕ) → (other_at block es place ≡ 0 → ⊥) → other_at block es place < place + length es
+other_place : (block : ℕ) (es : List Entry) (place k : ℕ) → other_at block es place ≡ Some k → (place ≤ k) × (k < place + length es)
 unfolding other_at
-other_place block [] place h = absurd (h refl)
-other_place block (e ∷ es) place h = by (other_place block es (suc place)) (block_kept block (meaning_of e.flag) e.count) h
+other_place block [] place k h = let z : ◌≡◌ {A = ℕ} 0 1 = cc in absurd (omega arith)
+other_place block (e ∷ es) place k h = by (other_place block es (suc place) k) (block_kept block (meaning_of e.flag) e.count) h
   where
-    by : ((other_at block es (suc place) ≡ 0 → ⊥) → other_at block es (suc place) < suc place + length es) → (b : Bool) → (cond b (other_at block es (suc place)) place ≡ 0 → ⊥) →
-        cond b (other_at block es (suc place)) place < place + length (e ∷ es)
-    by more true h = omega (arith, more h)
-    by more false h = omega arith
+    by : (other_at block es (suc place) ≡ Some k → (suc place ≤ k) × (k < suc place + length es)) → (b : Bool) → cond b (other_at block es (suc place)) (Some place) ≡ Some k →
+        (place ≤ k) × (k < place + length (e ∷ es))
+    by more true h = let m = more h in (omega (arith, m.0), omega (arith, m.1))
+    by more false h = let there : place ≡ k = cc in (omega arith, omega arith)
 
 -- The profile over a run that the plain reader accepts to its end.
 pub by_profile : {block : ℕ} {s u : Reader} {run : List Image} {lent rows : List (List ℕ)} → block_size_kept block ≡ true → ToEnd s run lent rows u → ByProfile block s run lent rows u
 by_profile size_kept_lem ToEnd.end_none = of_one_length end_none
-by_profile {block} size_kept_lem (ToEnd.end_more {s} {t} {u} {g} {gs} {lent} {rows} old e x) = by (by_profile size_kept_lem x) (eqb other 0) refl
+by_profile {block} size_kept_lem (ToEnd.end_more {s} {t} {u} {g} {gs} {lent} {rows} old e x) = by (by_profile size_kept_lem x) other refl
   where
     es : List Entry
     es = entries_below g.bytes (s.size - information_length) g.entries
 
-    other : ℕ
+    other : Option ℕ
     other = other_at block es 1
 
     row : List ℕ
@@ -186,14 +185,13 @@ by_profile {block} size_kept_lem (ToEnd.end_more {s} {t} {u} {g} {gs} {lent} {ro
     more k (another_length beginning h rest parts lent_before before state y lent-there place some most refused) =
         another_length (g ∷ beginning) h rest (ap {B = List Image} (λ l. g ∷ l) parts) (old ∷ lent_before) _ state (more_blocks size_kept_lem old e k y) lent-there place some most refused
 
-    by : ByProfile block t gs lent rows u → (b : Bool) → eqb other 0 ≡ b → ByProfile block s (g ∷ gs) (old ∷ lent) (row ∷ rows) u
-    by r true z = more (eqb-true other 0 z) r
-    by r false z =
-        let differs = eqb-false other 0 z in
+    by : ByProfile block t gs lent rows u → (o : Option ℕ) → other ≡ o → ByProfile block s (g ∷ gs) (old ∷ lent) (row ∷ rows) u
+    by r None z = more z r
+    by r (Some place) z =
         let long : length es ≡ g.entries = length_entries g.bytes (s.size - information_length) g.entries in
-        let below = other_place block es 1 differs in
-        another_length [] g gs refl [] [] s end_none old other (omega arith) (omega arith)
-        (other_refused block s t g.bytes g.number g.entries (length old) size_kept_lem e differs)
+        let below = other_place block es 1 place z in
+        another_length [] g gs refl [] [] s end_none old place (omega arith) (omega arith)
+        (other_refused block s t g.bytes g.number g.entries (length old) size_kept_lem e place z)
 by_profile {block} size_kept_lem (ToEnd.end_repeat {s} {u} {g} {gs} {lent} {rows} old e x) = more (by_profile size_kept_lem x)
   where
     more : ByProfile block s gs lent rows u → ByProfile block s (g ∷ gs) (old ∷ lent) rows u

@@ -3,12 +3,10 @@
 use Prim.Native.Nat.{ℕ}
 use mathlib.Core.Path.{◌≡◌, refl, sym, ◌∙◌}
 use mathlib.Core.List.{List}
-use mathlib.Core.Bool.{Bool, true, false, cond, false≢true}
-use lib.Dec.{eqb}
-use borrow.Author.Tests.{eqb-true}
+use mathlib.Core.Bool.{false≢true}
+use Rattle.std.specs.Prelude.{Option, Some, None}
 use Rattle.reader.specs.declared.Reader.{Reader}
 use Rattle.reader.specs.ReaderStart.{ReaderStart}
-use Rattle.reader.specs.ReadAnswer.{ReadAnswer}
 use Rattle.reader.specs.ReadAnswer as answer
 use Rattle.reader.specs.Answer.{read_call}
 use Rattle.reader.specs.Refused.{RefusedRead}
@@ -28,17 +26,14 @@ not_other (at_an_entry h some most) e = false≢true (rw e at h)
 never_other : (s t : Reader) (group : List ℕ) (number n room place : ℕ) → read_call s group number n room ≡ answer.Refused t 51 place → ⊥
 never_other s t group number n room place e = not_other (read_refuses s t group number n room 51 place e) refl
 
--- So the place at which a read refuses with 51, or 0, is settled.
-pub other_settled : (block : ℕ) (s : Reader) (group : List ℕ) (number n room x y : ℕ) →
+-- So the place at which a read refuses with 51, or that it has none, is settled.
+pub other_settled : (block : ℕ) (s : Reader) (group : List ℕ) (number n room : ℕ) (x y : Option ℕ) →
     blocks_read_call block s group number n room ≡ unless_other x s (read_call s group number n room) →
     blocks_read_call block s group number n room ≡ unless_other y s (read_call s group number n room) → x ≡ y
-other_settled block s group number n room x y e f = by (eqb x 0) refl (eqb y 0) refl (sym e ∙ f)
+other_settled block s group number n room x y e f = by x y (sym e ∙ f)
   where
-    plain : ReadAnswer
-    plain = read_call s group number n room
-
-    by : (a : Bool) → eqb x 0 ≡ a → (b : Bool) → eqb y 0 ≡ b → cond a plain (answer.Refused s 51 x) ≡ cond b plain (answer.Refused s 51 y) → x ≡ y
-    by true p true q h = eqb-true x 0 p ∙ sym (eqb-true y 0 q)
-    by true p false q h = absurd (never_other s s group number n room y h)
-    by false p true q h = absurd (never_other s s group number n room x (sym h))
-    by false p false q h = cc
+    by : (x y : Option ℕ) → unless_other x s (read_call s group number n room) ≡ unless_other y s (read_call s group number n room) → x ≡ y
+    by None None h = refl
+    by None (Some q) h = absurd (never_other s s group number n room q h)
+    by (Some p) None h = absurd (never_other s s group number n room p (sym h))
+    by (Some p) (Some q) h = cc

@@ -2,7 +2,7 @@
 // block size, and tells where a read refuses a record of another length. All else of a read is the plain reader's.
 #![tactic(auto)]
 
-ghost use Rattle.std.specs.Prelude.{◌≡◌, true, unwrap_or};
+ghost use Rattle.std.specs.Prelude.{◌≡◌, true};
 ghost use Rattle.answer.specs.Numbers.{blocks_number};
 ghost use Rattle.reader.specs.ReaderStart.{start_of};
 ghost use Rattle.reader.specs.Answer.{read_call};
@@ -19,6 +19,7 @@ pub fn is_block_size(block: u32) -> bool
     numbers::is_between(1, block, Group::LONGEST_RECORD)
 }
 
+#[tactic(auto, using(crate::proofs::Started::as_refused, crate::proofs::Started::out_of_range, crate::proofs::Started::as_started))]
 pub fn start(size: u32, first: u32, block: u32) -> Result<Reader, BlocksRefusal>
     ensures { start_of blocks_number result ≡ blocks_start_call size first block }
 {
@@ -40,7 +41,7 @@ pub fn other_place(
     room: usize,
 ) -> Option<u32>
     requires { block_size_kept block ≡ true }
-    ensures { blocks_read_call block reader group.now number entries room ≡ unless_other (unwrap_or result 0) reader (read_call reader group.now number entries room) }
+    ensures { blocks_read_call block reader group.now number entries room ≡ unless_other result reader (read_call reader group.now number entries room) }
 {
     reader.refusal(group.len(), number, entries, room).ok()?;
     let other = blockrule::other_at(group, reader.size, entries, block)?;

@@ -7,6 +7,7 @@ use mathlib.Core.Bool.{true, false}
 use mathlib.Core.List.{List, [], ◌∷◌, ◌++◌}
 use borrow.Author.Tests.{eq-eqb, ne_eqb}
 use lib.ListN.{length, replicate, take-append-drop, length-take}
+use Rattle.std.specs.Prelude.{Option, Some, None}
 use Rattle.numbers.specs.Numbers.{bytes_of, in_bytes}
 use Rattle.numbers.specs.Store.{put}
 use Rattle.numbers.proofs.Tests.{and}
@@ -58,13 +59,13 @@ module _ (state group : List ℕ) (number n : ℕ) (rows answer : List ℕ) wher
     unfolding dds_blocks_read
     refused_there fault place h m e t = over (λ z. h (sym t.returns ∙ z)) (rw (m, e) (went_on (RefusedAt fault place) _ _ answer kept refl t))
 
-    module _ (block place : ℕ) (s : Reader) (is_block : block ≡ block_of state) (is : s ≡ reader_of (reader_part state))
-        (judged : blocks_read_call block s group number n (length rows / 4) ≡ unless_other place s (read_call s group number n (length rows / 4))) where
-      pub other_length : {refusal : ℕ} {told : List ℕ} → (place ≡ 0 → ⊥) → reader_meant (reader_part state) ≡ true → Tells (RefusedAt 51 place) refusal told → Judges state group number n rows answer refusal told
-      other_length z m t = refused_there 51 place {s = reader_of (reader_part state)} (λ z. omega arith) m (rw (is_block, is, ne_eqb place 0 z) at judged) t
+    module _ (block : ℕ) (other : Option ℕ) (s : Reader) (is_block : block ≡ block_of state) (is : s ≡ reader_of (reader_part state))
+        (judged : blocks_read_call block s group number n (length rows / 4) ≡ unless_other other s (read_call s group number n (length rows / 4))) where
+      pub other_length : {refusal : ℕ} {told : List ℕ} (place : ℕ) → other ≡ Some place → reader_meant (reader_part state) ≡ true → Tells (RefusedAt 51 place) refusal told → Judges state group number n rows answer refusal told
+      other_length place z m t = refused_there 51 place {s = reader_of (reader_part state)} (λ z. omega arith) m (rw (is_block, is, z) at judged) t
 
       -- Neither: the plain call is made.
-      pub goes_on : place ≡ 0 → Judges state group number n rows answer 0 answer
+      pub goes_on : other ≡ None → Judges state group number n rows answer 0 answer
       goes_on z = record { refused = λ h. absurd (h refl); stays = λ h. refl; kept = λ h. kept; plainly = λ h. rw (is_block, is, z) at judged }
 
 -- What a search tells.

@@ -1,7 +1,7 @@
 -- What each way of an explanation tells: a repeat, a refusal before the scan, a scan that reached its end, one that stopped.
 -- Assumes nothing.
 use Prim.Native.Nat.{ℕ, ◌/◌}
-use mathlib.Core.Path.{◌≡◌, sym}
+use mathlib.Core.Path.{◌≡◌, refl}
 use mathlib.Core.Bool.{true, false}
 use mathlib.Core.List.{List}
 use native.Mathlib.Omega.{arith}
@@ -10,9 +10,12 @@ use borrow.Author.Tests.{ne_eqb}
 use Rattle.group.specs.declared.Entry.{Entry}
 use Rattle.group.specs.Sizes.{entry_offset}
 use Rattle.group.specs.Entries.{entry_at}
+use Rattle.std.specs.Prelude.{Result, Ok, Err, Some, None}
+use Rattle.std.specs.Result.{result_err}
+use Rattle.answer.specs.Numbers.{refusal_number}
 use Rattle.entry.specs.declared.Cursor.{Cursor}
-use Rattle.entry.specs.ScanEnd.{ScanEnd}
-use Rattle.entry.specs.ScanEnd as scanned
+use Rattle.entry.specs.declared.Stop.{Stop}
+use Rattle.entry.specs.ScanEnd.{ScanEnd, end_of}
 use Rattle.reader.specs.declared.Reader.{Reader}
 use Rattle.reader.specs.Answer.{is_repeat, read_refusal, group_scan}
 use Rattle.reader.proofs.Accepted.{never_repeat}
@@ -30,14 +33,17 @@ module _ (s : Reader) (group : List ℕ) (number n bytes : ℕ) where
   unfolding explained
   told_before r why e h x w = rw (x, w, ← e, ne_eqb r 0 h)
 
-  told_by : read_refusal s (length group) number n (bytes / 4) ≡ 0 → (end : ScanEnd) → group_scan s group n ≡ end → scan_explained s.size n group end ≡ explained s group number n bytes
+  pub told_scan : 0 ≡ read_refusal s (length group) number n (bytes / 4) → (end : ScanEnd) → end ≡ group_scan s group n → scan_explained s.size n group end ≡ explained s group number n bytes
   unfolding explained
-  told_by e end f = rw (never_repeat s (length group) number n (bytes / 4) 0 (sym e) (λ z. omega arith), e, f)
+  told_scan e end f = rw (never_repeat s (length group) number n (bytes / 4) 0 e (λ z. omega arith), ← e, f)
 
-  pub told_end : read_refusal s (length group) number n (bytes / 4) ≡ 0 → (c : Cursor) → group_scan s group n ≡ scanned.Reached c → no_refusal ≡ explained s group number n bytes
-  told_end e c f = told_by e (scanned.Reached c) f
+-- What a result of the scan tells that is no error, and one that is.
+pub told_end : (size n : ℕ) (group : List ℕ) (r : Result Cursor Stop) → None ≡ result_err r → no_refusal ≡ scan_explained size n group (end_of r)
+told_end size n group (Ok c) e = refl
+told_end size n group (Err s) e = cc
 
-  pub told_stop : read_refusal s (length group) number n (bytes / 4) ≡ 0 → (fault place : ℕ) (c : Cursor) → group_scan s group n ≡ scanned.Refused fault place c
-      → (offset : ℕ) → offset ≡ entry_offset s.size place → (e : Entry) → e ≡ entry_at group offset → (why : Reason) → why ≡ entry_reason fault (stop s.size n place c) e
-      → explanation fault place offset why ≡ explained s group number n bytes
-  told_stop e fault place c f offset o x is why w = rw (w, is, o) (told_by e (scanned.Refused fault place c) f)
+pub told_stop : (size n : ℕ) (group : List ℕ) (r : Result Cursor Stop) (at : Stop) → Some at ≡ result_err r
+    → (offset : ℕ) → offset ≡ entry_offset size at.place → (e : Entry) → e ≡ entry_at group offset → (why : Reason) → why ≡ entry_reason (refusal_number at.refusal) (stop size n at.place at.here) e
+    → explanation (refusal_number at.refusal) at.place offset why ≡ scan_explained size n group (end_of r)
+told_stop size n group (Ok c) at h offset o x is why w = cc
+told_stop size n group (Err s) at h offset o x is why w = let same : at ≡ s = cc in rw (w, is, o, same)

@@ -22,6 +22,7 @@ pub struct Explanation {
 }
 
 // Whether a group of this length with this number is a repeat. A read looks for it only where it would else be refused with 5.
+#[tactic(auto, unfolding(reader::specs::Answer::is_repeat))]
 fn is_repeat(reader: Reader, length: usize, number: u32) -> bool
     ensures { result ≡ is_repeat reader length number }
 {
