@@ -1,3 +1,6 @@
--- What a reader of this crate must believe: the six numbers of an answer, the numbers of the refusals, and what a refusal leaves.
+-- What a reader of this crate must believe: the six numbers of an answer, what a refusal leaves, the numbers of the refusals, and what a
+-- result of the code tells. NotZero serves only the trait of refusals.
 pub mod Answer
-pub mod Refusals
+pub mod NotZero
+pub mod Numbers
+pub mod Results

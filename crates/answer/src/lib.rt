@@ -2,73 +2,23 @@
 // and the place.
 #![tactic(auto)]
 
-ghost use Rattle.std.specs.Prelude.{◌≡◌};
-ghost use Rattle.answer.specs.Refusals.{refusal_number, refused};
+pub mod refusals;
 
-// Every refusal of documents 01 and 02, by the number that firmware sees. No call gives 11 any more: 19 to 22 stand in its place.
-#[derive(Clone, Copy, Debug, PartialEq, Eq)]
-pub enum Refusal {
-    State = 1,
-    Size = 2,
-    First = 3,
-    Group = 4,
-    Number = 5,
-    Entries = 6,
-    Rows = 7,
-    Flag = 8,
-    B4 = 9,
-    Follow = 10,
-    Room = 12,
-    Skip = 13,
-    NoNumber = 14,
-    RecordLength = 15,
-    Rest = 16,
-    Open = 17,
-    Separator = 18,
-    ZeroPart = 19,
-    AboveOne = 20,
-    TooLong = 21,
-    TotalDiffers = 22,
-    OwedEarly = 23,
-    Explanation = 24,
-    Length = 30,
-    Parity = 31,
-    Sw1 = 32,
-    Sw2 = 33,
-    Close = 34,
-    RowLength = 40,
-    Row = 41,
-    SameRow = 42,
-    Hopeless = 43,
-    BlockSize = 50,
-    BlockLength = 51,
-    AitLength = 60,
-    Reserved = 61,
-    Thickness = 62,
-    Flags = 63,
-}
-
-// The number that firmware sees.
-impl From<Refusal> for u32 {
-    ghost from_gives = { λ r n. n ≡ refusal_number r };
-
-    fn from(refusal: Refusal) -> u32 {
-        refusal as u32
-    }
-}
+ghost use Rattle.std.specs.Prelude.{◌≡◌, ℕ};
+ghost use Rattle.answer.specs.Results.{refused, told_of, plainly_told};
 
 // A refusal, and the entry, block or column where it stands; 0 where it has no such place.
 #[derive(Clone, Copy, Debug, PartialEq, Eq)]
-pub struct Refused {
-    pub refusal: Refusal,
+pub struct Refused<R> {
+    pub refusal: R,
     pub place: u32,
 }
 
 // A refusal that has no place.
-impl From<Refusal> for Refused {
+impl<R> From<R> for Refused<R> {
     ghost from_gives = { λ r e. e ≡ refused r 0 };
 
-    fn from(refusal: Refusal) -> Refused {
+    fn from(refusal: R) -> Refused<R> {
         Refused { refusal, place: 0 }
     }
 }
@@ -82,4 +32,12 @@ pub struct Outcome {
     pub taken: u32,
 }
 
-pub type Told = Result<Outcome, Refused>;
+pub type Told<R> = Result<Outcome, Refused<R>>;
+
+// What a call tells that has no more to tell than that it is accepted.
+pub fn plainly_told<T: Copy, R: Copy>(done: Result<T, R>) -> Told<R>
+    ensures { (number : R → ℕ) → told_of number result ≡ plainly_told number done }
+{
+    done?;
+    Ok(Outcome::default())
+}

@@ -3,11 +3,12 @@
 #![tactic(auto)]
 
 ghost use Rattle.std.specs.Prelude.{◌≡◌, length};
-ghost use Rattle.answer.specs.Refusals.{number_of};
+ghost use Rattle.answer.specs.Numbers.{track_number};
+ghost use Rattle.answer.specs.Results.{number_of};
 ghost use Rattle.block.specs.Block.{block_length, data_part_length, block_of};
 ghost use Rattle.block.specs.Faults.{close_kept, block_fault};
 
-use answer::Refusal;
+use answer::refusals::TrackRefusal;
 use header::Header;
 
 // The length of a block, and of its four places.
@@ -40,21 +41,21 @@ fn close_kept(block: &[u8; LENGTH]) -> bool
 
 // The first rule that a block breaks, as its refusal.
 #[tactic(auto, unfolding(crate::specs::Faults::block_fault))]
-pub fn judge_block(area: u32, number: u8, block: &[u8; LENGTH]) -> Result<(), Refusal>
-    ensures { number_of result ≡ block_fault area number block.now }
+pub fn judge_block(area: u32, number: u8, block: &[u8; LENGTH]) -> Result<(), TrackRefusal>
+    ensures { number_of track_number result ≡ block_fault area number block.now }
 {
     let [sw1, sw2, parity, ..] = *block;
     if parity != sw1 ^ sw2 {
-        return Err(Refusal::Parity);
+        return Err(TrackRefusal::Parity);
     }
     if !header::sw1_kept(area, number, sw1) {
-        return Err(Refusal::Sw1);
+        return Err(TrackRefusal::Sw1);
     }
     if !header::sw2_kept(number, sw2) {
-        return Err(Refusal::Sw2);
+        return Err(TrackRefusal::Sw2);
     }
     if !close_kept(block) {
-        return Err(Refusal::Close);
+        return Err(TrackRefusal::Close);
     }
     Ok(())
 }

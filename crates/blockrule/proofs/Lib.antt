@@ -1,3 +1,4 @@
--- The laws of a block's rule along a group (Turns), and of the profile's scan beside the plain one (Merged).
+-- The flags that the rule asks after (Lengths), its laws along a group (Turns), and the profile's scan beside the plain one (Merged).
+pub mod Lengths
 pub mod Turns
 pub mod Merged

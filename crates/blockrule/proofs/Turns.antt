@@ -2,9 +2,10 @@
 -- Assumes nothing.
 use Prim.Native.Nat.{ℕ, zero, suc, ◌+◌, ◌*◌, ◌-◌, ◌≤◌}
 use native.Mathlib.Omega.{arith}
-use mathlib.Core.Path.{◌≡◌}
+use mathlib.Core.Path.{◌≡◌, ap}
 use mathlib.Core.List.{List}
 use mathlib.Core.Bool.{true, false}
+use Rattle.std.specs.Prelude.{Option, Some, None}
 use Rattle.group.specs.declared.Entry.{Entry}
 use Rattle.group.specs.Sizes.{entry_offset}
 use Rattle.group.specs.Flags.{meaning_of}
@@ -13,7 +14,7 @@ use Rattle.blockrule.specs.Rule.{block_kept}
 use Rattle.blockrule.specs.Bounds.{other_at}
 
 -- The first of those that are left.
-abbrev pub other_left : (block size n : ℕ) (group : List ℕ) (left : ℕ) → ℕ
+abbrev pub other_left : (block size n : ℕ) (group : List ℕ) (left : ℕ) → Option ℕ
 other_left block size n group left = other_at block (entries_below group (entry_offset size n + 4 * left) left) (n + 1 - left)
 
 -- With all of them left it is the first of the group, and with none there is none.
@@ -23,7 +24,7 @@ all_left block size n group h =
     let first : n + 1 - n ≡ 1 = omega arith in
     rw (top, first)
 
-pub none_left : (block size n : ℕ) (group : List ℕ) (left : ℕ) → left ≡ 0 → 0 ≡ other_left block size n group left
+pub none_left : (block size n : ℕ) (group : List ℕ) (left : ℕ) → left ≡ 0 → None ≡ other_left block size n group left
 unfolding other_at entries_below
 none_left block size n group left e = rw e
 
@@ -31,15 +32,15 @@ module _ (block size n : ℕ) (group : List ℕ) (left : ℕ) (e : Entry) (some 
   below : entry_offset size n + 4 * left - 4 ≡ entry_offset size n + 4 * (left - 1)
   below = omega arith
 
-  pub found_here : block_kept block (meaning_of e.flag) e.count ≡ false → n - (left - 1) ≡ other_left block size n group left
+  pub found_here : block_kept block (meaning_of e.flag) e.count ≡ false → Some (n - (left - 1)) ≡ other_left block size n group left
   unfolding other_at entries_below
   found_here h = by left some is
     where
-      by : (m : ℕ) → 1 ≤ m → e ≡ entry_at group (entry_offset size n + 4 * (m - 1)) → n - (m - 1) ≡ other_left block size n group m
+      by : (m : ℕ) → 1 ≤ m → e ≡ entry_at group (entry_offset size n + 4 * (m - 1)) → Some (n - (m - 1)) ≡ other_left block size n group m
       by zero z i = absurd (omega arith)
       by (suc m) z i =
           let at : entry_offset size n + 4 * suc m - 4 ≡ entry_offset size n + 4 * (suc m - 1) = omega arith in
-          rw (at, ← i, h) (omega arith)
+          rw (at, ← i, h) (ap Some (omega arith))
 
   pub kept_here : block_kept block (meaning_of e.flag) e.count ≡ true → other_left block size n group left ≡ other_left block size n group (left - 1)
   unfolding other_at entries_below

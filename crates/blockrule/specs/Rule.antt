@@ -3,20 +3,20 @@
 use Rattle.std.specs.Prelude.{ℕ, suc, List, [], ◌∷◌, Bool, true, false, cond, not, eqb}
 use Rattle.group.specs.declared.Entry.{Entry}
 use Rattle.group.specs.declared.Kind.TheVariants.{Total, Entire}
-use Rattle.group.specs.declared.Meaning.{Meaning}
-use Rattle.group.specs.declared.Meaning.TheVariants.{Known, Unknown}
+use Rattle.group.specs.Flags.{Meaning}
+use Rattle.std.specs.Prelude.{Some, None}
 use Rattle.group.specs.Flags.{meaning_of}
 use Rattle.counts.specs.Counts.{is_among}
 use Rattle.entry.specs.declared.Cursor.{Cursor}
-use Rattle.entry.specs.declared.ScanEnd.{ScanEnd}
-use Rattle.entry.specs.declared.ScanEnd.TheVariants.{Reached}
+use Rattle.entry.specs.ScanEnd.{ScanEnd}
+use Rattle.entry.specs.ScanEnd.{Reached}
 use Rattle.entry.specs.Rules.{entry_fault, or_else}
 use Rattle.entry.specs.Scan.{after, is_last, onward}
 
 -- The entries whose count is the length of a whole record: an entire one, and a total.
 abbrev pub is_length : Meaning → Bool
-is_length Unknown = false
-is_length (Known k warned) = is_among k (Total ∷ Entire ∷ [])
+is_length None = false
+is_length (Some (k, warned)) = is_among k (Total ∷ Entire ∷ [])
 
 -- "every entire entry has that count, every total equals it, separators are allowed"
 abbrev pub block_kept : (block : ℕ) → Meaning → (count : ℕ) → Bool

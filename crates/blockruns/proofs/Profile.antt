@@ -15,8 +15,8 @@ use Rattle.group.specs.Entries.{entries_below}
 use Rattle.group.proofs.EntryLaws.{length_entries}
 use Rattle.entry.specs.declared.Stand.{Stand}
 use Rattle.reader.specs.declared.Reader.{Reader}
-use Rattle.reader.specs.declared.ReadAnswer.{ReadAnswer}
-use Rattle.reader.specs.declared.ReadAnswer.TheVariants as answer
+use Rattle.reader.specs.ReadAnswer.{ReadAnswer}
+use Rattle.reader.specs.ReadAnswer as answer
 use Rattle.reader.specs.Answer.{read_call, group_rows, rows_left}
 use Rattle.reader.proofs.Accepted.{accepted}
 use Rattle.reader.proofs.Repeats.{repeat_last}

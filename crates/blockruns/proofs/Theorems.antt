@@ -14,7 +14,7 @@ use Rattle.numbers.proofs.Tests.{within}
 use Rattle.numbers.proofs.Stores.{put_stands}
 use Rattle.numbers.proofs.InBytes.{length_in_bytes, field_of_bytes}
 use Rattle.reader.specs.declared.Reader.{Reader}
-use Rattle.reader.specs.declared.ReaderStart.TheVariants as start
+use Rattle.reader.specs.ReaderStart as start
 use Rattle.reader.specs.Answer.{fresh, reader_start_call, group_rows}
 use Rattle.reader.proofs.Accepted as passes
 use Rattle.reader.proofs.GroupRows.{length_group_rows}

@@ -11,7 +11,7 @@ use Rattle.numbers.proofs.Tests.{within}
 use Rattle.numbers.proofs.NumberLaws.{length_bytes, number_from, number_of_bytes}
 use Rattle.numbers.proofs.InBytes.{length_numbers}
 use Rattle.reader.specs.declared.Reader.{Reader}
-use Rattle.reader.specs.declared.ReadAnswer.{ReadAnswer}
+use Rattle.reader.specs.ReadAnswer.{ReadAnswer}
 use Rattle.reader.specs.Answer.{sound, read_call, group_rows, rows_left}
 use Rattle.reader.proofs.Sound.{sound_again}
 use Rattle.layout.specs.Layout.{Image}

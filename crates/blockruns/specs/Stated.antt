@@ -3,7 +3,7 @@
 -- Assumes nothing.
 use Rattle.std.specs.Prelude.{ℕ, ◌≤◌, List, [], ◌∷◌, ◌++◌, ◌≡◌, length}
 use Rattle.reader.specs.declared.Reader.{Reader}
-use Rattle.reader.specs.declared.ReadAnswer.TheVariants as answer
+use Rattle.reader.specs.ReadAnswer as answer
 use Rattle.reader.specs.Answer.{group_rows, rows_left}
 use Rattle.layout.specs.Items.{Item}
 use Rattle.layout.specs.Items.Item.{record_item, separator_item}

@@ -12,10 +12,10 @@ use lib.ListN.{length}
 use borrow.Author.Tests.{eqb-true, eqb-false, ne_eqb}
 use Rattle.group.specs.Sizes.{information_length, entry_offset}
 use Rattle.group.specs.Entries.{entries_below}
-use Rattle.entry.specs.declared.ScanEnd.{ScanEnd}
-use Rattle.entry.specs.declared.ScanEnd.TheVariants as scanned
+use Rattle.entry.specs.ScanEnd.{ScanEnd}
+use Rattle.entry.specs.ScanEnd as scanned
 use Rattle.reader.specs.declared.Reader.{Reader}
-use Rattle.reader.specs.declared.ReadAnswer.TheVariants as answer
+use Rattle.reader.specs.ReadAnswer as answer
 use Rattle.reader.specs.Answer.{opening, is_repeat, read_refusal, group_scan, answered, read_call}
 use Rattle.reader.proofs.Accepted.{accepted, repeated, not_refused, repeat_five, never_repeat, read_scanned}
 use Rattle.blocks.specs.Answer.{block_size_kept, blocks_scan, blocks_read_call}

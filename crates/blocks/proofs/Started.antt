@@ -7,7 +7,7 @@ use mathlib.Core.Bool.{Bool, true, false, cond, not}
 use lib.Dec.{eqb}
 use Rattle.group.specs.State.{start_refusal}
 use Rattle.reader.specs.declared.Reader.{Reader}
-use Rattle.reader.specs.declared.ReaderStart.TheVariants as start
+use Rattle.reader.specs.ReaderStart as start
 use Rattle.reader.specs.Answer.{fresh, reader_start_call}
 use Rattle.reader.proofs.Accepted.{begun_at}
 use Rattle.blocks.specs.Answer.{block_size_kept, blocks_start_refusal, blocks_start_call}

@@ -5,13 +5,13 @@ use Rattle.std.specs.Prelude.{ℕ, ◌-◌, List, Bool, cond, not, eqb, length}
 use Rattle.group.specs.Sizes.{information_length, record_kept, entry_offset}
 use Rattle.group.specs.Entries.{entries_below}
 use Rattle.group.specs.State.{start_refusal}
-use Rattle.entry.specs.declared.ScanEnd.{ScanEnd}
+use Rattle.entry.specs.ScanEnd.{ScanEnd}
 use Rattle.entry.specs.Rules.{or_else}
 use Rattle.reader.specs.declared.Reader.{Reader}
-use Rattle.reader.specs.declared.ReaderStart.{ReaderStart}
-use Rattle.reader.specs.declared.ReaderStart.TheVariants as start
-use Rattle.reader.specs.declared.ReadAnswer.{ReadAnswer}
-use Rattle.reader.specs.declared.ReadAnswer.TheVariants as answer
+use Rattle.reader.specs.ReaderStart.{ReaderStart}
+use Rattle.reader.specs.ReaderStart as start
+use Rattle.reader.specs.ReadAnswer.{ReadAnswer}
+use Rattle.reader.specs.ReadAnswer as answer
 use Rattle.reader.specs.Answer.{fresh, opening, is_repeat, read_refusal, answered}
 use Rattle.blockrule.specs.Rule.{block_scan}
 

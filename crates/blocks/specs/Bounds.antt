@@ -2,8 +2,8 @@
 -- Assumes nothing.
 use Rattle.std.specs.Prelude.{ℕ, cond, eqb}
 use Rattle.reader.specs.declared.Reader.{Reader}
-use Rattle.reader.specs.declared.ReadAnswer.{ReadAnswer}
-use Rattle.reader.specs.declared.ReadAnswer.TheVariants.{Refused}
+use Rattle.reader.specs.ReadAnswer.{ReadAnswer}
+use Rattle.reader.specs.ReadAnswer.{Refused}
 
 -- 51 at a place in front of what the plain reader answers; with place 0, that answer.
 abbrev pub unless_other : (place : ℕ) → Reader → ReadAnswer → ReadAnswer

@@ -14,8 +14,8 @@ use Rattle.answer.specs.Answer.{Told}
 use Rattle.answer.specs.Answer.{Accepted, RefusedAt}
 use Rattle.answer.specs.Answer.{if_accepted}
 use Rattle.reader.specs.declared.Reader.{Reader}
-use Rattle.reader.specs.declared.ReadAnswer.{ReadAnswer}
-use Rattle.reader.specs.declared.ReadAnswer.TheVariants as read
+use Rattle.reader.specs.ReadAnswer.{ReadAnswer}
+use Rattle.reader.specs.ReadAnswer as read
 use Rattle.reader.specs.Answer.{fresh, read_call, told}
 use Rattle.blocks.specs.Answer.{blocks_read_call}
 use Rattle.blocks.specs.Bounds.{unless_other}

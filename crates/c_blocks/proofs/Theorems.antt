@@ -10,10 +10,10 @@ use Rattle.answer.specs.Answer.{Told}
 use Rattle.answer.specs.Answer.{Accepted, RefusedAt}
 use Rattle.answer.specs.Answer.{refusal_told}
 use Rattle.reader.specs.declared.Reader.{Reader}
-use Rattle.reader.specs.declared.ReaderStart.{ReaderStart}
-use Rattle.reader.specs.declared.ReaderStart.TheVariants as start
-use Rattle.reader.specs.declared.ReadAnswer.{ReadAnswer}
-use Rattle.reader.specs.declared.ReadAnswer.TheVariants as read
+use Rattle.reader.specs.ReaderStart.{ReaderStart}
+use Rattle.reader.specs.ReaderStart as start
+use Rattle.reader.specs.ReadAnswer.{ReadAnswer}
+use Rattle.reader.specs.ReadAnswer as read
 use Rattle.reader.specs.Answer.{fresh, start_told, read_call, told}
 use Rattle.blocks.specs.Answer.{blocks_start_refusal, blocks_start_call, blocks_read_call}
 use Rattle.blocks.proofs.Judged.{either}

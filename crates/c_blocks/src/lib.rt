@@ -6,8 +6,8 @@ ghost use Rattle.slices.specs.Call.{left};
 ghost use Rattle.c_blocks.specs.Calls.{dds_blocks_start, dds_blocks_read, find_told, dds_blocks_find};
 ghost use Rattle.c_blocks.specs.ForContracts.{Judges};
 
-use answer::Told;
-use reader::ReaderStart;
+use answer::refusals::{BlocksRefusal, Refusal};
+use answer::{Outcome, Refused, Told};
 use seek::Beginning;
 
 // The length of the state slice, in bytes: a plain reader's and the block size.
@@ -20,15 +20,12 @@ pub fn start(size: u32, first: u32, block: u32, state: &mut [u8], answer: &mut [
     if !slices::lengths_kept(state.len(), BLOCKS_LENGTH, answer.len()) {
         return 1;
     }
-    let start = blocks::start(size, first, block);
-    match start {
-        ReaderStart::Started(reader) => {
-            storing::begin(state, reader.size, reader.next);
-            numbers::put_number(state, states::READER_LENGTH, block);
-            slices::tell(answer, Told::Accepted(0, 0, 0, 0))
-        }
-        ReaderStart::Refused(refusal) => slices::tell(answer, Told::RefusedAt(refusal, 0)),
+    let started = blocks::start(size, first, block);
+    if let Ok(reader) = started {
+        storing::begin(state, reader.size, reader.next);
+        numbers::put_number(state, states::READER_LENGTH, block);
     }
+    slices::tell(answer, answer::plainly_told(started))
 }
 
 // Whether a read is refused before the plain reader comes to it, or in its stead: the refusal, which is told in the answer
@@ -49,19 +46,20 @@ fn judge(
     let first = 0;
     let behind = states::READER_LENGTH;
     let part = &state[first..behind];
-    if !states::reader_meant(part) {
-        return slices::tell(answer, Told::RefusedAt(1, 0));
-    }
     let block = numbers::number_at(state, behind);
-    if !blocks::is_block_size(block) {
-        return slices::tell(answer, Told::RefusedAt(1, 0));
+    if !states::reader_meant(part) || !blocks::is_block_size(block) {
+        return slices::tell(answer, Err(Refusal::State.into()));
     }
     let reader = states::reader_of(part);
-    let other = blocks::other_place(reader, block, group, number, entries, rows.len() / 4);
-    if other == 0 {
+    let Some(place) = blocks::other_place(reader, block, group, number, entries, rows.len() / 4)
+    else {
         return 0;
-    }
-    slices::tell(answer, Told::RefusedAt(51, other))
+    };
+    let other = Refused {
+        refusal: BlocksRefusal::BlockLength,
+        place,
+    };
+    slices::tell(answer, Err(other))
 }
 
 // Reads one group: its rows, and the state for the next. Where nothing of the profile refuses it, it is the plain call on the
@@ -93,12 +91,16 @@ pub fn read(
 }
 
 // What a search tells of its answer.
-fn find_told(found: Beginning) -> Told
+fn find_told(found: Beginning) -> Told<BlocksRefusal>
     ensures { result ≡ find_told found }
 {
     match found {
-        Beginning::At(offset) => Told::Accepted(1, offset, 0, 0),
-        Beginning::Elsewhere => Told::Accepted(0, 0, 0, 0),
+        Beginning::At(offset) => Ok(Outcome {
+            outcome: 1,
+            number: offset,
+            ..Outcome::default()
+        }),
+        Beginning::Elsewhere => Ok(Outcome::default()),
     }
 }
 

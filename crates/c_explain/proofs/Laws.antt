@@ -7,7 +7,7 @@ use Prim.Native.Nat.{ℕ}
 use borrow.Author.Tests.{eq-eqb, ne_eqb}
 use lib.ListN.{length}
 use Rattle.reader.specs.declared.Reader.{Reader}
-use Rattle.explain.specs.declared.Explanation.{Explanation}
+use Rattle.explain.specs.Explanation.{Explanation}
 use Rattle.reasons.specs.Reasons.{no_reason}
 use Rattle.explain.specs.Explanation.{explanation, explained}
 use Rattle.states.specs.States.{reader_length, reader_of, reader_meant}

@@ -12,7 +12,7 @@ use Rattle.answer.specs.Answer.{Told}
 use Rattle.answer.specs.Answer.{Accepted, RefusedAt}
 use Rattle.answer.specs.Answer.{numbers_told, refusal_told}
 use Rattle.reader.specs.Answer.{read_call, told}
-use Rattle.explain.specs.declared.Explanation.{Explanation}
+use Rattle.explain.specs.Explanation.{Explanation}
 use Rattle.reasons.specs.Reasons.{no_reason}
 use Rattle.explain.specs.Explanation.{explanation, explained}
 use Rattle.explain.specs.Truth.{SameTold}

@@ -3,7 +3,7 @@
 -- Assumes nothing.
 use Rattle.std.specs.Prelude.{ℕ, List, [], ◌∷◌, Bool, cond, ◌&&◌, eqb, length}
 use Rattle.numbers.specs.Numbers.{in_eights}
-use Rattle.explain.specs.declared.Explanation.{Explanation}
+use Rattle.explain.specs.Explanation.{Explanation}
 use Rattle.reasons.specs.Reasons.{no_reason}
 use Rattle.explain.specs.Explanation.{explanation, explained}
 use Rattle.slices.specs.Call.{Left, left}

@@ -2,7 +2,7 @@
 -- Assumes nothing.
 use Rattle.std.specs.Prelude.{ℕ, ◌≡◌, true, false, List, ◌∷◌, length}
 use Rattle.numbers.specs.Numbers.{in_bytes}
-use Rattle.explain.specs.declared.Explanation.{Explanation}
+use Rattle.explain.specs.Explanation.{Explanation}
 use Rattle.reasons.specs.Reasons.{no_reason}
 use Rattle.explain.specs.Explanation.{explanation}
 use Rattle.explain.specs.Truth.{True}

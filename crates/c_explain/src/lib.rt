@@ -1,58 +1,65 @@
 // Why a read refuses, from C: seven numbers of eight bytes.
 #![tactic(auto)]
 
+ghost use Rattle.explain.specs.Explanation.{explanation_of};
 ghost use Rattle.std.specs.Prelude.{◌≡◌, length};
 ghost use Rattle.reasons.specs.Reasons.{no_reason};
 ghost use Rattle.explain.specs.Explanation.{explanation};
 ghost use Rattle.c_explain.specs.Calls.{explanation_length, explains, tells, state_explained, dds_explain};
 
+use answer::refusals::{Numbered, Refusal};
 use explain::Explanation;
 use reasons::Reason;
 
 // The length of an explanation, in bytes.
 const EXPLANATION_LENGTH: usize = 56;
 
-// An explanation's seven numbers, over all that stood in the slice. Answers the first, which is what the call returns.
-fn put_explanation(slice: &mut [u8], x: Explanation) -> u32
+// An explanation's seven numbers, zeros where there is none, over all that stood in the slice. Answers the first, which is what the call
+// returns.
+fn put_explanation(slice: &mut [u8], x: Option<Explanation>) -> u32
     requires { length slice.old ≡ explanation_length }
-    ensures { explains result slice.new ≡ tells x }
+    ensures { explains result slice.new ≡ tells (explanation_of x) }
 {
-    numbers::put_eight(slice, 0, x.refusal as u64);
+    let Some(x) = x else {
+        numbers::bytes::put_zeros(slice, 0, EXPLANATION_LENGTH);
+        return 0;
+    };
+    let refusal = x.refusal.number();
+    numbers::put_eight(slice, 0, refusal as u64);
     numbers::put_eight(slice, 8, x.place as u64);
     numbers::put_eight(slice, 16, x.offset as u64);
     numbers::put_eight(slice, 24, x.why.found);
     numbers::put_eight(slice, 32, x.why.least);
     numbers::put_eight(slice, 40, x.why.greatest);
     numbers::put_eight(slice, 48, x.why.kinds);
-    x.refusal
+    refusal
 }
 
 // 1 where the state's slice has another length or a number without a meaning.
-fn no_state() -> Explanation
-    ensures { result ≡ explanation 1 0 0 no_reason }
-{
-    Explanation {
-        refusal: 1,
-        place: 0,
-        offset: 0,
-        why: Reason {
-            found: 0,
-            least: 0,
-            greatest: 0,
-            kinds: 0,
-        },
-    }
-}
+const NO_STATE: Explanation = Explanation {
+    refusal: Refusal::State,
+    place: 0,
+    offset: 0,
+    why: Reason {
+        found: 0,
+        least: 0,
+        greatest: 0,
+        kinds: 0,
+    },
+};
 
 // The explanation of a read in the state that a slice holds.
-fn explain_state(state: &[u8], group: &[u8], number: u32, entries: u32, rows: &[u8]) -> Explanation
-    ensures { result ≡ state_explained state.now group.now number entries rows.now }
+fn explain_state(
+    state: &[u8],
+    group: &[u8],
+    number: u32,
+    entries: u32,
+    rows: &[u8],
+) -> Option<Explanation>
+    ensures { explanation_of result ≡ state_explained state.now group.now number entries rows.now }
 {
-    if state.len() != states::READER_LENGTH {
-        return no_state();
-    }
-    if !states::reader_meant(state) {
-        return no_state();
+    if state.len() != states::READER_LENGTH || !states::reader_meant(state) {
+        return Some(NO_STATE);
     }
     let reader = states::reader_of(state);
     Explanation::of(reader, group, number, entries, rows.len())

@@ -9,8 +9,8 @@ use Rattle.numbers.specs.Numbers.{in_bytes}
 use Rattle.answer.specs.Answer.{RefusedAt}
 use Rattle.answer.specs.Answer.{if_accepted}
 use Rattle.reader.specs.declared.Reader.{Reader}
-use Rattle.reader.specs.declared.ReadAnswer.{ReadAnswer}
-use Rattle.reader.specs.declared.ReadAnswer.TheVariants as read
+use Rattle.reader.specs.ReadAnswer.{ReadAnswer}
+use Rattle.reader.specs.ReadAnswer as read
 use Rattle.reader.specs.Answer.{told, rows_left, Reads}
 use Rattle.slices.specs.Call.{left, lengths_kept, Tells}
 use Rattle.slices.proofs.Calls.{went_on, none_lent, more_lent}

@@ -15,10 +15,10 @@ use Rattle.answer.specs.Answer.{Told}
 use Rattle.answer.specs.Answer.{numbers_told, refusal_told, if_accepted}
 use Rattle.group.specs.State.{start_refusal}
 use Rattle.reader.specs.declared.Reader.{Reader}
-use Rattle.reader.specs.declared.ReaderStart.{ReaderStart}
-use Rattle.reader.specs.declared.ReaderStart.TheVariants as start
-use Rattle.reader.specs.declared.ReadAnswer.{ReadAnswer}
-use Rattle.reader.specs.declared.ReadAnswer.TheVariants as read
+use Rattle.reader.specs.ReaderStart.{ReaderStart}
+use Rattle.reader.specs.ReaderStart as start
+use Rattle.reader.specs.ReadAnswer.{ReadAnswer}
+use Rattle.reader.specs.ReadAnswer as read
 use Rattle.reader.specs.Answer.{fresh, reader_start_call, start_told, is_repeat, read_call, told, group_rows, rows_left}
 use Rattle.reader.proofs.Accepted as own_read
 use Rattle.reader.proofs.Refused.{read_refuses, read_not_zero}

@@ -4,8 +4,8 @@
 use Rattle.std.specs.Prelude.{ℕ, ◌/◌, ◌≡◌, true, false, List, [], ◌∷◌, length}
 use Rattle.numbers.specs.Numbers.{in_bytes}
 use Rattle.reader.specs.declared.Reader.{Reader}
-use Rattle.reader.specs.declared.ReaderStart.TheVariants.{Started}
-use Rattle.reader.specs.declared.ReadAnswer.TheVariants.{Accepted}
+use Rattle.reader.specs.ReaderStart.{Started}
+use Rattle.reader.specs.ReadAnswer.{Accepted}
 use Rattle.reader.specs.Answer.{fresh, reader_start_call, is_repeat, read_call}
 use Rattle.reader.specs.Refused.{RefusedRead}
 use Rattle.slices.specs.Call.{Left, left, lengths_kept}

@@ -3,8 +3,8 @@
 -- Assumes nothing.
 use Rattle.std.specs.Prelude.{ℕ, ◌/◌, List, [], ◌∷◌, length}
 use Rattle.numbers.specs.Numbers.{in_bytes}
-use Rattle.reader.specs.declared.ReadAnswer.{ReadAnswer}
-use Rattle.reader.specs.declared.ReadAnswer.TheVariants as read
+use Rattle.reader.specs.ReadAnswer.{ReadAnswer}
+use Rattle.reader.specs.ReadAnswer as read
 use Rattle.reader.specs.Answer.{fresh, reader_start_call, start_told, read_call, told, group_rows, rows_left}
 use Rattle.slices.specs.Call.{Left, slice, lengths_kept, of_meaning, called}
 use Rattle.states.specs.States.{reader_length, reader_of, reader_bytes, reader_meant}

@@ -12,8 +12,8 @@ use Rattle.numbers.specs.Numbers.{in_bytes}
 use Rattle.answer.specs.Answer.{numbers_told, refusal_told}
 use Rattle.column.specs.Column.{last_row, Column, column, Lawful, restored_one, restored_two, mended}
 use Rattle.column.specs.Alike.{ColumnBytes, Same, SameBut, SameButTwo, AtMostOne}
-use Rattle.third.specs.declared.ThirdAnswer.{ThirdAnswer}
-use Rattle.third.specs.declared.ThirdAnswer.TheVariants.{Accepted}
+use Rattle.third.specs.Answer.{ThirdAnswer}
+use Rattle.third.specs.Answer.{Accepted}
 use Rattle.third.specs.Answer.{first_check_row, make_call, one_call, two_call, mend_call, check_call, told, Does, Mends}
 use Rattle.third.specs.Written.{Lent, Written, MendTold, CheckTold, FirstHopeless}
 use Rattle.third.proofs.Theorems.{third_made, third_restored_one, third_restored_two, third_mended, third_mended_column, third_mends_one, third_told, third_checked}

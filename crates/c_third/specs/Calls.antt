@@ -2,7 +2,7 @@
 -- every input. Each is the crate third's own call. n is the row length.
 -- Assumes nothing.
 use Rattle.std.specs.Prelude.{ℕ, List, [], ◌∷◌, length}
-use Rattle.third.specs.declared.ThirdAnswer.{ThirdAnswer}
+use Rattle.third.specs.Answer.{ThirdAnswer}
 use Rattle.column.specs.Column.{last_row, Column, restored_one, restored_two, mended}
 use Rattle.restoring.specs.Rows.{each_column}
 use Rattle.third.specs.Answer.{first_check_row, make_call, one_call, two_call, mend_call, check_call, told}

@@ -5,7 +5,8 @@ ghost use Rattle.std.specs.Prelude.{◌≡◌, [], ◌∷◌};
 ghost use Rattle.slices.specs.Call.{left};
 ghost use Rattle.c_track.specs.Calls.{dds_subdata_make, dds_subdata_read};
 
-use answer::{Outcome, Refusal};
+use answer::Outcome;
+use answer::refusals::{Numbered, Refusal};
 use track::Track;
 
 // A track from its Area ID, Pack IDs and items, and the Item number of each place.
@@ -21,7 +22,7 @@ pub fn make(
     ensures { left result (track.new ∷ numbers.new ∷ []) answer.new ≡ dds_subdata_make area frame packs.now items.now track.old numbers.old answer.old }
 {
     if answer.len() != slices::ANSWER_LENGTH {
-        return u32::from(Refusal::State);
+        return Refusal::State.number();
     }
     let done = Track::make(area, frame, packs, items, track, numbers);
     slices::tell(answer, done.map(|()| Outcome::default()))
@@ -40,7 +41,7 @@ pub fn read(
     ensures { left result (packs.new ∷ items.new ∷ numbers.new ∷ []) answer.new ≡ dds_subdata_read area frame track.now packs.old items.old numbers.old answer.old }
 {
     if answer.len() != slices::ANSWER_LENGTH {
-        return u32::from(Refusal::State);
+        return Refusal::State.number();
     }
     let done = Track::read(area, frame, track, packs, items, numbers);
     slices::tell(answer, done.map(|()| Outcome::default()))

@@ -8,7 +8,7 @@ use lib.ListN.{length}
 use Rattle.answer.specs.Answer.{if_accepted}
 use Rattle.laying.specs.declared.Writer.{Writer}
 use Rattle.laying.specs.Laying.{desk}
-use Rattle.writer.specs.declared.WriteAnswer.{WriteAnswer}
+use Rattle.writer.specs.WriteAnswer.{WriteAnswer}
 use Rattle.writer.specs.Calls.{Done, Meets, Call, call, told, state_of}
 use Rattle.writer.proofs.Theorems.{group_left_lem}
 use Rattle.slices.specs.Call.{left, answer_length, lengths_kept, Tells, Refuses}

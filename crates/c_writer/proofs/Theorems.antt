@@ -13,13 +13,13 @@ use Rattle.answer.specs.Answer.{Told}
 use Rattle.answer.specs.Answer.{Accepted, RefusedAt}
 use Rattle.answer.specs.Answer.{refusal_told, if_accepted}
 use Rattle.group.specs.State.{start_refusal}
-use Rattle.laying.specs.declared.WriterStart.{WriterStart}
-use Rattle.laying.specs.declared.WriterStart.TheVariants as start
+use Rattle.laying.specs.WriterStart.{WriterStart}
+use Rattle.laying.specs.WriterStart as start
 use Rattle.laying.specs.Start.{fresh_state, writer_start_call}
 use Rattle.laying.specs.Laying.{Desk, desk}
 use Rattle.sound.proofs.Accepted.{record_accepted_lem, separator_accepted_lem, end_accepted_lem}
-use Rattle.writer.specs.declared.WriteAnswer.{WriteAnswer}
-use Rattle.writer.specs.declared.WriteAnswer.TheVariants as write
+use Rattle.writer.specs.WriteAnswer.{WriteAnswer}
+use Rattle.writer.specs.WriteAnswer as write
 use Rattle.writer.specs.Calls.{Done, done, or_refused, start_told, record_call, separator_call, end_call, Call, call, told, state_of}
 use Rattle.writer.specs.Calls.Call.{a_record, a_separator, an_end}
 use Rattle.writer.proofs.Left.{Left, record_left, separator_left, end_left}

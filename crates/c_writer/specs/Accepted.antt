@@ -3,10 +3,10 @@
 use Rattle.std.specs.Prelude.{ℕ, ◌-◌, ◌≡◌, true, ◌&&◌, List, length, drop}
 use Rattle.group.specs.Sizes.{information_length}
 use Rattle.laying.specs.declared.Writer.{Writer}
-use Rattle.laying.specs.declared.WriterStart.TheVariants.{Started}
+use Rattle.laying.specs.WriterStart.{Started}
 use Rattle.laying.specs.Start.{fresh_state, writer_start_call}
-use Rattle.writer.specs.declared.WriteAnswer.{WriteAnswer}
-use Rattle.writer.specs.declared.WriteAnswer.TheVariants.{Finished, Closed}
+use Rattle.writer.specs.WriteAnswer.{WriteAnswer}
+use Rattle.writer.specs.WriteAnswer.{Finished, Closed}
 use Rattle.writer.specs.Calls.{Done}
 use Rattle.slices.specs.Call.{Left, lengths_kept}
 use Rattle.states.specs.States.{writer_length, b4_meant, writer_meant}

@@ -8,9 +8,10 @@ ghost use Rattle.slices.specs.Call.{left, answer_length, lengths_kept, Tells, Re
 ghost use Rattle.states.specs.States.{writer_length, b4_meant, writer_bytes, writer_meant};
 ghost use Rattle.c_writer.specs.Calls.{dds_writer_start, dds_record, dds_separator, dds_end};
 
-use answer::Told;
-use laying::{Writer, WriterStart};
-use writer::WriteAnswer;
+use answer::refusals::Refusal;
+use answer::{Outcome, Refused, Told};
+use laying::Writer;
+use writer::Written;
 
 // A fresh writer, into the state slice.
 pub fn start(size: u32, first: u32, state: &mut [u8], answer: &mut [u8]) -> u32
@@ -19,14 +20,11 @@ pub fn start(size: u32, first: u32, state: &mut [u8], answer: &mut [u8]) -> u32
     if !slices::lengths_kept(state.len(), states::WRITER_LENGTH, answer.len()) {
         return 1;
     }
-    let start = Writer::start(size, first);
-    match start {
-        WriterStart::Started(writer) => {
-            storing::begin(state, writer.size, writer.next);
-            slices::tell(answer, Told::Accepted(0, 0, 0, 0))
-        }
-        WriterStart::Refused(refusal) => slices::tell(answer, Told::RefusedAt(refusal, 0)),
+    let started = Writer::start(size, first);
+    if let Ok(writer) = started {
+        storing::begin(state, writer.size, writer.next);
     }
+    slices::tell(answer, answer::plainly_told(started))
 }
 
 // Whether the slices refuse a call: by a length, with nothing written, or by a number that has no meaning, with the answer.
@@ -37,36 +35,45 @@ fn refused(state: &[u8], warn: u32, answer: &mut [u8]) -> bool
         return true;
     }
     if !states::writer_meant(state, warn) {
-        slices::tell(answer, Told::RefusedAt(1, 0));
+        slices::tell(answer, Err(Refusal::State.into()));
         return true;
     }
     false
 }
 
-// What a call leaves in the state and the answer, and what it returns.
-fn finish(state: &mut [u8], answer: &mut [u8], done: WriteAnswer) -> u32
-    requires { (length state.old ≡ writer_length) × (length answer.old ≡ answer_length) }
-    ensures state_after { state.new ≡ if_accepted (told done) (writer_bytes (state_of done)) state.old }
-    ensures tells { Tells (told done) result answer.new }
+// What a call tells of its answer.
+fn told_of(done: Result<Written, Refusal>) -> Told<Refusal>
+    ensures { (given : Writer) → told_of refusal_number result ≡ told (answer_of given done) }
 {
-    match done {
-        WriteAnswer::Finished(writer) => {
-            storing::put_writer(state, writer);
-            slices::tell(answer, Told::Accepted(0, 0, 0, 0))
-        }
-        WriteAnswer::Closed {
-            state: writer,
+    match done? {
+        Written::Finished(_) => Ok(Outcome::default()),
+        Written::Closed {
             number,
             entries,
             taken,
-        } => {
-            storing::put_writer(state, writer);
-            slices::tell(answer, Told::Accepted(1, number, entries, taken))
-        }
-        WriteAnswer::Refused { state: _, refusal } => {
-            slices::tell(answer, Told::RefusedAt(refusal, 0))
-        }
+            ..
+        } => Ok(Outcome {
+            outcome: 1,
+            number,
+            entries,
+            taken,
+        }),
     }
+}
+
+// What a call leaves in the state and the answer, and what it returns.
+fn finish(state: &mut [u8], answer: &mut [u8], done: Result<Written, Refusal>) -> u32
+    requires { (length state.old ≡ writer_length) × (length answer.old ≡ answer_length) }
+    ensures state_after { (given : Writer) → state.new ≡ if_accepted (told (answer_of given done)) (writer_bytes (state_of (answer_of given done))) state.old }
+    ensures tells { (given : Writer) → Tells (told (answer_of given done)) result answer.new }
+{
+    match done {
+        Ok(Written::Finished(writer) | Written::Closed { state: writer, .. }) => {
+            storing::put_writer(state, writer);
+        }
+        Err(_) => {}
+    }
+    slices::tell(answer, told_of(done))
 }
 
 // A record's bytes: whole, or as many as the group takes.

@@ -1,29 +1,17 @@
 -- What the code's tests on a column's sums say of the column.
 -- Assumes nothing.
-use mathlib.Core.Path.{◌≡◌, sym, ◌∙◌}
+use mathlib.Core.Path.{◌≡◌}
 use mathlib.Core.Bool.{true, false}
 use Prim.Native.Nat.{ℕ, ◌≤◌, ◌<◌}
 use native.Mathlib.Omega.{arith}
 use lib.Dec.{eqb}
-use borrow.Author.Tests.{eq-eqb, ne_eqb, eqb-true, le-ltb, lt-ltb, ltb-true, ltb-false}
+use borrow.Author.Tests.{eq-eqb, eqb-true, le-ltb, lt-ltb, ltb-true, ltb-false}
 use Rattle.numbers.proofs.Tests.{both, and}
 use Rattle.column.specs.Column.{Column, first_sum, second_sum, Lawful, lawful, none_wrong, none_mends, wrong_in, mendable}
 use Rattle.column.proofs.Mending.{wrong_row_small}
 
 module _ (col : Column) where
   -- Both rules.
-  pub breaks_first : (s : ℕ) → s ≡ first_sum col → (s ≡ 0 → ⊥) → lawful col ≡ false
-  unfolding lawful
-  breaks_first s e d = rw (ne_eqb (first_sum col) 0 (λ z. d (e ∙ z)))
-
-  pub breaks_second : (s t : ℕ) → s ≡ first_sum col → t ≡ second_sum col → s ≡ 0 → (t ≡ 0 → ⊥) → lawful col ≡ false
-  unfolding lawful
-  breaks_second s t e f z d = rw (eq-eqb (first_sum col) 0 (sym e ∙ z), ne_eqb (second_sum col) 0 (λ y. d (f ∙ y)))
-
-  pub keeps : (s t : ℕ) → s ≡ first_sum col → t ≡ second_sum col → s ≡ 0 → t ≡ 0 → lawful col ≡ true
-  unfolding lawful
-  keeps s t e f z y = and (eq-eqb (first_sum col) 0 (sym e ∙ z)) (eq-eqb (second_sum col) 0 (sym f ∙ y))
-
   pub is_lawful : lawful col ≡ true → Lawful col
   unfolding lawful
   is_lawful h =

@@ -3,30 +3,30 @@
 #![tactic(auto)]
 
 ghost use Rattle.std.specs.Prelude.{◌≡◌, ◌+◌, ◌*◌, ◌≤◌, ◌<◌, ◌^◌, length};
-ghost use Rattle.field.specs.Tables.{power_table, logarithm_table};
 ghost use Rattle.column.specs.Column.{row_count, column, first_sum, second_sum, apart, lacking, wrong_row};
+ghost use Rattle.column.specs.Wrong.{IsWrong};
 
-use field::tables;
+use field::Field;
+use field::tables::Logarithms;
 
-// The rows of a column, and what stands for a row where none is wrong or no single change mends.
-#[derive(Clone, Copy)]
-pub struct Column {}
+// The rows of a column.
+pub const ROW_COUNT: usize = 46;
 
-impl Column {
-    pub const ROW_COUNT: usize = 46;
-
-    pub const LAST_ROW: usize = 45;
-
-    pub const NONE_WRONG: usize = Column::ROW_COUNT;
-
-    pub const NONE_MENDS: usize = Column::ROW_COUNT + 1;
-}
+pub const LAST_ROW: usize = 45;
 
 // The sums of the two rules.
-#[derive(Clone, Copy)]
+#[derive(Clone, Copy, Debug, Default, PartialEq, Eq)]
 pub struct Sums {
     pub first: u8,
     pub second: u8,
+}
+
+// Which row of a column is wrong: none, one, or so many that no single change mends the column.
+#[derive(Clone, Copy, Debug, PartialEq, Eq)]
+pub enum Wrong {
+    NoRow,
+    Row(usize),
+    Hopeless,
 }
 
 // Where the byte of row i and column c stands.
@@ -37,76 +37,53 @@ pub fn place(n: usize, i: usize, c: usize) -> usize
     i * n + c
 }
 
-// The sums of column c. The second by doubling: each row's byte is multiplied by α once for every row after it.
-pub fn sums_of(rows: &[u8], n: usize, c: usize) -> Sums
-    requires { (c < n) × (length rows.now ≡ row_count * n) }
-    ensures { (result.first ≡ first_sum (column rows.now n c)) × (result.second ≡ second_sum (column rows.now n c)) }
-{
-    let mut first: u8 = 0;
-    let mut second: u8 = 0;
-    let mut i = 0;
-    while i < Column::ROW_COUNT {
-        let byte = rows[place(n, i, c)];
-        first = first ^ byte;
-        second = field::times_alpha(second) ^ byte;
-        i += 1;
-    }
-    Sums { first, second }
-}
-
 // The logarithm of the sum of two rows' weights.
-pub fn apart_of(powers: &[u8; 256], logarithms: &[u8; 256], i: usize, j: usize) -> usize
-    requires { (powers.now ≡ power_table) × (logarithms.now ≡ logarithm_table) × (i < row_count) × (j < row_count) }
+pub fn apart_of(field: &Field, i: usize, j: usize) -> usize
+    requires { (i < row_count) × (j < row_count) }
     ensures { (result ≡ apart i j) × (result < 255) }
 {
-    tables::logarithm_of(
-        logarithms,
-        tables::power_of(powers, Column::LAST_ROW - i)
-            ^ tables::power_of(powers, Column::LAST_ROW - j),
-    )
+    field.logarithms.of(field.powers.at(LAST_ROW - i) ^ field.powers.at(LAST_ROW - j))
 }
 
-// What row i lacks where rows i and j are to be restored and the sum of their weights is α^k.
-pub fn lacking_in(
-    powers: &[u8; 256],
-    logarithms: &[u8; 256],
-    k: usize,
-    i: usize,
-    j: usize,
-    s: Sums,
-) -> u8
-    requires { (powers.now ≡ power_table) × (logarithms.now ≡ logarithm_table) × (i < row_count) × (j < row_count) × (k ≡ apart i j) × (k ≤ 255) }
-    ensures { result ≡ lacking i j s.first s.second }
-{
-    field::times(
-        powers,
-        logarithms,
-        255 - k,
-        s.second ^ field::times(powers, logarithms, Column::LAST_ROW - j, s.first),
-    )
-}
-
-// The wrong row; NONE_WRONG where none is, NONE_MENDS where no single change mends the column.
-pub fn wrong_row(logarithms: &[u8; 256], s: Sums) -> usize
-    requires { logarithms.now ≡ logarithm_table }
-    ensures { result ≡ wrong_row s.first s.second }
-{
-    let first = s.first;
-    let second = s.second;
-    if first == 0 {
-        if second == 0 {
-            return Column::NONE_WRONG;
+impl Sums {
+    // The sums of column c. The second by doubling: each row's byte is multiplied by α once for every row after it.
+    pub fn of(rows: &[u8], n: usize, c: usize) -> Self
+        requires { (c < n) × (length rows.now ≡ row_count * n) }
+        ensures { (result.first ≡ first_sum (column rows.now n c)) × (result.second ≡ second_sum (column rows.now n c)) }
+    {
+        let mut first = 0;
+        let mut second = 0;
+        for i in 0..ROW_COUNT {
+            let byte = rows[place(n, i, c)];
+            first ^= byte;
+            second = field::times_alpha(second) ^ byte;
         }
-        return Column::NONE_MENDS;
+        Self { first, second }
     }
-    if second == 0 {
-        return Column::NONE_MENDS;
+
+    // What row i lacks where rows i and j are to be restored and the sum of their weights is α^k.
+    pub fn lacking(self, field: &Field, k: usize, i: usize, j: usize) -> u8
+        requires { (i < row_count) × (j < row_count) × (k ≡ apart i j) × (k ≤ 255) }
+        ensures { result ≡ lacking i j self.first self.second }
+    {
+        field.times(255 - k, self.second ^ field.times(LAST_ROW - j, self.first))
     }
-    let d = (tables::logarithm_of(logarithms, second)
-        + (255 - tables::logarithm_of(logarithms, first)))
-        % 255;
-    if d <= Column::LAST_ROW {
-        return Column::LAST_ROW - d;
+
+    // The wrong row of a column of these sums.
+    #[tactic(auto, unfolding(crate::specs::Column::wrong_row, crate::specs::Column::row_of_weight), using(numbers::proofs::Tests::tests))]
+    pub fn wrong_row(self, logarithms: &Logarithms) -> Wrong
+        ensures { IsWrong result (wrong_row self.first self.second) }
+    {
+        if self == Self::default() {
+            return Wrong::NoRow;
+        }
+        if self.first == 0 || self.second == 0 {
+            return Wrong::Hopeless;
+        }
+        let d = (logarithms.of(self.second) + (255 - logarithms.of(self.first))) % 255;
+        if d > LAST_ROW {
+            return Wrong::Hopeless;
+        }
+        Wrong::Row(LAST_ROW - d)
     }
-    Column::NONE_MENDS
 }

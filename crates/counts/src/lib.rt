@@ -3,47 +3,41 @@
 #![tactic(auto)]
 
 ghost use Rattle.std.specs.Prelude.{◌≡◌, ◌≤◌};
+ghost use Rattle.answer.specs.Numbers.{refusal_number};
+ghost use Rattle.answer.specs.Results.{number_of};
 ghost use Rattle.group.specs.Sizes.{longest_record};
 ghost use Rattle.counts.specs.Counts.{count_fault};
 ghost use Rattle.counts.specs.Parts.{part_fault};
 
+use answer::refusals::Refusal;
 use group::{Group, Kind};
 
 // 19 and 21 of a part, up to which the parts add to so much.
-fn part_fault(count: u32, parts: u32, most: u32) -> u32
-    ensures { result ≡ part_fault count parts most }
+fn part_fault(count: u32, parts: u32, most: u32) -> Result<(), Refusal>
+    ensures { number_of refusal_number result ≡ part_fault count parts most }
 {
     if count < 1 {
-        return 19;
+        return Err(Refusal::ZeroPart);
     }
     if most < parts {
-        return 21;
+        return Err(Refusal::TooLong);
     }
-    0
+    Ok(())
 }
 
 // 19 to 22, at each kind.
-pub fn count_fault(kind: Kind, sum: u32, count: u32) -> u32
+pub fn count_fault(kind: Kind, sum: u32, count: u32) -> Result<(), Refusal>
     requires { (sum ≤ longest_record) × (count ≤ longest_record) }
-    ensures { result ≡ count_fault kind sum count }
+    ensures { number_of refusal_number result ≡ count_fault kind sum count }
 {
-    match kind {
-        Kind::Total => {
-            if count == sum {
-                return 0;
-            }
-            22
-        }
-        Kind::Separator => {
-            if count <= 1 {
-                return 0;
-            }
-            20
-        }
-        Kind::Middle => part_fault(count, sum + count, Group::LONGEST_RECORD - 1),
-        Kind::Start => part_fault(count, count, Group::LONGEST_RECORD - 1),
-        Kind::Last => part_fault(count, sum + count, Group::LONGEST_RECORD),
-        Kind::Entire => part_fault(count, count, Group::LONGEST_RECORD),
-        Kind::Skip => 0,
-    }
+    let (parts, most) = match kind {
+        Kind::Total if count != sum => return Err(Refusal::TotalDiffers),
+        Kind::Separator if count > 1 => return Err(Refusal::AboveOne),
+        Kind::Total | Kind::Separator | Kind::Skip => return Ok(()),
+        Kind::Middle => (sum + count, Group::LONGEST_RECORD - 1),
+        Kind::Start => (count, Group::LONGEST_RECORD - 1),
+        Kind::Last => (sum + count, Group::LONGEST_RECORD),
+        Kind::Entire => (count, Group::LONGEST_RECORD),
+    };
+    part_fault(count, parts, most)
 }

@@ -7,8 +7,8 @@ use native.Mathlib.Omega.{arith}
 use borrow.Author.Tests.{leb-false, not-true}
 use Rattle.group.specs.declared.Kind.{Kind}
 use Rattle.group.specs.declared.Kind.TheVariants.{Total, Separator, Middle, Start, Last, Entire, Skip}
-use Rattle.group.specs.declared.Meaning.{Meaning}
-use Rattle.group.specs.declared.Meaning.TheVariants.{Known, Unknown}
+use Rattle.group.specs.Flags.{Meaning}
+use Rattle.std.specs.Prelude.{Some, None}
 use Rattle.entry.specs.declared.Cursor.{Cursor}
 use Rattle.entry.specs.declared.Stand.{Stand}
 use Rattle.entry.specs.declared.Stand.TheVariants.{Free, AfterPart, Inside, AfterLast, Owed}
@@ -18,7 +18,7 @@ use Rattle.entry.specs.Rules.{may_follow, b4_kept, follow_kept, or_else, room_ke
 -- What 23 at one entry tells.
 pub record EarlyAt (last : Bool) (stand : Stand) (m : Meaning) (count : ℕ) : Type 0 where
   pub b4 : Bool
-  pub skips : m ≡ Known Skip b4
+  pub skips : m ≡ Some (Skip, b4)
   pub stands : stand ≡ AfterLast
   pub early : 44 ≤ count
   pub ends : last ≡ true
@@ -43,7 +43,7 @@ at_end f true e = refl
 at_end true false e = sym e
 at_end false false e = sym e
 
-at_skip : (last : Bool) (stand : Stand) (w : Bool) (count : ℕ) → not (owed_kept Skip stand count) ≡ true → last ≡ true → EarlyAt last stand (Known Skip w) count
+at_skip : (last : Bool) (stand : Stand) (w : Bool) (count : ℕ) → not (owed_kept Skip stand count) ≡ true → last ≡ true → EarlyAt last stand (Some (Skip, w)) count
 at_skip last Free w count e l = absurd (false≢true e)
 at_skip last AfterPart w count e l = absurd (false≢true e)
 at_skip last Inside w count e l = absurd (false≢true e)
@@ -52,13 +52,13 @@ at_skip last Owed w count e l = absurd (false≢true e)
 
 pub early_at : (size limit : ℕ) (last : Bool) (c : Cursor) (m : Meaning) (count : ℕ) → entry_fault size limit last c m count ≡ 23 → EarlyAt last c.stand m count
 unfolding entry_fault
-early_at size limit last c Unknown count e = absurd (omega arith)
-early_at size limit last c (Known k w) count e =
+early_at size limit last c None count e = absurd (omega arith)
+early_at size limit last c (Some (k, w)) count e =
     by k
     (told_last (not (b4_kept c.warned w)) (not (follow_kept c.stand k last)) (zero_part k count) (above_one k count) (too_long k c.sum count) (differs k c.sum count)
     (not (room_kept k c.reached count limit)) (not (skip_kept k c.reached count size)) (not (owed_kept k c.stand count)) e)
   where
-    by : (k : Kind) → (not (follow_kept c.stand k last) ≡ false) × (not (owed_kept k c.stand count) ≡ true) → EarlyAt last c.stand (Known k w) count
+    by : (k : Kind) → (not (follow_kept c.stand k last) ≡ false) × (not (owed_kept k c.stand count) ≡ true) → EarlyAt last c.stand (Some (k, w)) count
     by Total t = absurd (false≢true t.1)
     by Separator t = absurd (false≢true t.1)
     by Middle t = absurd (false≢true t.1)

@@ -8,8 +8,8 @@ use borrow.Author.Tests.{eq-eqb, ne_eqb, eqb-true, eqb-false, leb-true, not-fals
 use lib.Dec.{eqb}
 use Rattle.group.specs.declared.Kind.{Kind}
 use Rattle.group.specs.declared.Kind.TheVariants.{Total, Separator, Middle, Start, Last, Entire, Skip}
-use Rattle.group.specs.declared.Meaning.{Meaning}
-use Rattle.group.specs.declared.Meaning.TheVariants.{Known, Unknown}
+use Rattle.group.specs.Flags.{Meaning}
+use Rattle.std.specs.Prelude.{Some, None}
 use Rattle.group.specs.Sizes.{longest_record}
 use Rattle.group.specs.Flags.{meaning_of}
 use Rattle.group.specs.ForContracts.{Meant}
@@ -30,21 +30,21 @@ or_false false = refl
 
 -- The number of an entry's fault, test by test, where its flag means a kind.
 module _ (size limit : ℕ) (last : Bool) (c : Cursor) (k : Kind) (w : Bool) (count : ℕ) where
-  pub dropped : b4_kept c.warned w ≡ false → 9 ≡ entry_fault size limit last c (Known k w) count
+  pub dropped : b4_kept c.warned w ≡ false → 9 ≡ entry_fault size limit last c (Some (k, w)) count
   unfolding entry_fault
   dropped h = rw h
 
-  pub misplaced : b4_kept c.warned w ≡ true → follow_kept c.stand k last ≡ false → 10 ≡ entry_fault size limit last c (Known k w) count
+  pub misplaced : b4_kept c.warned w ≡ true → follow_kept c.stand k last ≡ false → 10 ≡ entry_fault size limit last c (Some (k, w)) count
   unfolding entry_fault
   misplaced h i = rw (h, i)
 
   pub miscounted : b4_kept c.warned w ≡ true → follow_kept c.stand k last ≡ true → (n : ℕ) → n ≡ count_fault k c.sum count → (n ≡ 0 → ⊥)
-      → n ≡ entry_fault size limit last c (Known k w) count
+      → n ≡ entry_fault size limit last c (Some (k, w)) count
   unfolding entry_fault
   miscounted h i n f z = rw (h, i, ← f, ne_eqb n 0 z)
 
   pub counted : b4_kept c.warned w ≡ true → follow_kept c.stand k last ≡ true → count_fault k c.sum count ≡ 0
-      → data_fault size limit c.stand c.reached k count ≡ entry_fault size limit last c (Known k w) count
+      → data_fault size limit c.stand c.reached k count ≡ entry_fault size limit last c (Some (k, w)) count
   unfolding entry_fault
   counted h i f = rw (h, i, f)
 
@@ -77,7 +77,7 @@ or_none fault rest e = by (eqb fault 0) refl e
 
 -- No fault is every rule kept, and the other way round.
 module _ (size limit : ℕ) (last : Bool) (c : Cursor) (k : Kind) (w : Bool) (count : ℕ) where
-  pub kept : entry_fault size limit last c (Known k w) count ≡ 0 → Kept size limit last c k w count
+  pub kept : entry_fault size limit last c (Some (k, w)) count ≡ 0 → Kept size limit last c k w count
   unfolding entry_fault
   kept e =
       let a = passed (not (b4_kept c.warned w)) 8 e in
@@ -95,12 +95,12 @@ module _ (size limit : ℕ) (last : Bool) (c : Cursor) (k : Kind) (w : Bool) (co
         owed = not-false _ o.0;
       }
 
-  pub no_fault : Kept size limit last c k w count → entry_fault size limit last c (Known k w) count ≡ 0
+  pub no_fault : Kept size limit last c k w count → entry_fault size limit last c (Some (k, w)) count ≡ 0
   unfolding entry_fault
   no_fault h = rw (h.b4, h.follow, no_count_fault k c.sum count h.counted, h.room, h.skip, h.owed)
 
 -- A flag without a meaning is a fault.
-pub unknown_fault : (size limit : ℕ) (last : Bool) (c : Cursor) (count : ℕ) → entry_fault size limit last c Unknown count ≡ 0 → ⊥
+pub unknown_fault : (size limit : ℕ) (last : Bool) (c : Cursor) (count : ℕ) → entry_fault size limit last c None count ≡ 0 → ⊥
 unfolding entry_fault
 unknown_fault size limit last c count e = omega arith
 
@@ -121,8 +121,8 @@ sum_small Skip sum count r h = h
 -- An entry without a fault leaves the scan's numbers as small as they were.
 pub stays : (size limit : ℕ) (last : Bool) (c : Cursor) (m : Meaning) (count : ℕ) → Bounded limit c → entry_fault size limit last c m count ≡ 0
     → Bounded limit (after c m count)
-stays size limit last c Unknown count b e = b
-stays size limit last c (Known k w) count b e =
+stays size limit last c None count b e = b
+stays size limit last c (Some (k, w)) count b e =
     let h = kept size limit last c k w count e in
     record {
       sum = sum_small k c.sum count h.counted b.sum;

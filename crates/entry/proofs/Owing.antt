@@ -11,15 +11,15 @@ use lib.Dec.{eqb}
 use Rattle.group.specs.declared.Entry.{Entry}
 use Rattle.group.specs.declared.Kind.{Kind}
 use Rattle.group.specs.declared.Kind.TheVariants.{Total, Separator, Middle, Start, Last, Entire, Skip}
-use Rattle.group.specs.declared.Meaning.{Meaning}
-use Rattle.group.specs.declared.Meaning.TheVariants.{Known, Unknown}
+use Rattle.group.specs.Flags.{Meaning}
+use Rattle.std.specs.Prelude.{Some, None}
 use Rattle.group.specs.declared.Phase.{Phase}
 use Rattle.group.specs.declared.Phase.TheVariants as phase
 use Rattle.group.specs.Sizes.{most_owing}
 use Rattle.group.specs.Flags.{meaning_of}
 use Rattle.entry.specs.declared.Cursor.{Cursor}
-use Rattle.entry.specs.declared.ScanEnd.{ScanEnd}
-use Rattle.entry.specs.declared.ScanEnd.TheVariants.{Reached, Refused}
+use Rattle.entry.specs.ScanEnd.{ScanEnd}
+use Rattle.entry.specs.ScanEnd.{Reached, Refused}
 use Rattle.entry.specs.declared.Stand.{Stand}
 use Rattle.entry.specs.declared.Stand.TheVariants.{Free, AfterPart, Inside, AfterLast, Owed}
 use Rattle.entry.specs.Rules.{may_follow, is_skip, stand_at, stand_after, entry_fault}
@@ -44,7 +44,7 @@ early_refused size limit _ place c d (last_then_skip {first} {second} b4 b4Behin
     let next = after c (meaning_of first.flag) first.count in
     let rest = (went_on (entry_fault size limit false c (meaning_of first.flag) first.count) place c d _ e).1 in
     let none = (went_on (entry_fault size limit true next (meaning_of second.flag) second.count) (suc place) next d _ rest).0 in
-    let k = kept size limit true (after c (Known Last b4) first.count) Skip b4Behind second.count (rw (l, s) at none) in
+    let k = kept size limit true (after c (Some (Last, b4)) first.count) Skip b4Behind second.count (rw (l, s) at none) in
     omega (arith, leb-true second.count most_owing k.owed)
 
 -- A scan that ends with 23 is told it at this entry, or passes it.
@@ -89,17 +89,17 @@ stays_past Skip p e = p
 record Passed (stand : Stand) (m : Meaning) (last : Bool) : Type 0 where
   kind : Kind
   b4 : Bool
-  means : m ≡ Known kind b4
+  means : m ≡ Some (kind, b4)
   follows : may_follow stand kind ≡ true
   skips : cond last (is_skip kind) (not (is_skip kind)) ≡ true
 
 passes : (size limit : ℕ) (last : Bool) (c : Cursor) (m : Meaning) (count : ℕ) → entry_fault size limit last c m count ≡ 0 → Passed c.stand m last
-passes size limit last c Unknown count e = absurd (unknown_fault size limit last c count e)
-passes size limit last c (Known k w) count e =
+passes size limit last c None count e = absurd (unknown_fault size limit last c count e)
+passes size limit last c (Some (k, w)) count e =
     let f = both (may_follow c.stand k) (cond last (is_skip k) (not (is_skip k))) (kept size limit last c k w count e).follow in
     record { kind = k; b4 = w; means = refl; follows = f.0; skips = f.1 }
 
-stand_is : (c : Cursor) (m : Meaning) (count : ℕ) (k : Kind) (w : Bool) → m ≡ Known k w → (after c m count).stand ≡ stand_after c.stand k
+stand_is : (c : Cursor) (m : Meaning) (count : ℕ) (k : Kind) (w : Bool) → m ≡ Some (k, w) → (after c m count).stand ≡ stand_after c.stand k
 stand_is c m count k w e = rw e
 
 none_told : (size limit place : ℕ) (c : Cursor) (at : ℕ) (d : Cursor) → scan size limit [] place c ≡ Refused 23 at d → ⊥
@@ -137,7 +137,7 @@ never_early size limit (x ∷ es) place c at d p e =
 
 -- Behind a last: the skip that is the last entry, and nothing else.
 second : (size limit : ℕ) (x : Entry) (w : Bool) (es : List Entry) (place : ℕ) (c : Cursor) (at : ℕ) (d : Cursor) →
-    meaning_of x.flag ≡ Known Last w → c.stand ≡ AfterLast → scan size limit es place c ≡ Refused 23 at d → OwedEarly (x ∷ es) × (place ≡ at)
+    meaning_of x.flag ≡ Some (Last, w) → c.stand ≡ AfterLast → scan size limit es place c ≡ Refused 23 at d → OwedEarly (x ∷ es) × (place ≡ at)
 unfolding may_follow
 second size limit x w [] place c at d l s e = absurd (none_told size limit place c at d e)
 second size limit x w (y ∷ []) place c at d l s e = by (step size limit y [] place c at d e)
@@ -173,7 +173,7 @@ early_only size limit (x ∷ es) place c phase.Inside at d s e = by (step size l
     inside_not : Inside ≡ AfterLast → ⊥
     inside_not h = let z : ◌≡◌ {A = ℕ} 0 1 = cc in absurd (omega arith)
 
-    on : (k : Kind) (w : Bool) → meaning_of x.flag ≡ Known k w → may_follow Inside k ≡ true → (after c (meaning_of x.flag) x.count).stand ≡ stand_after Inside k
+    on : (k : Kind) (w : Bool) → meaning_of x.flag ≡ Some (k, w) → may_follow Inside k ≡ true → (after c (meaning_of x.flag) x.count).stand ≡ stand_after Inside k
         → scan size limit es (suc place) (after c (meaning_of x.flag) x.count) ≡ Refused 23 at d → OwedEarly (x ∷ es) × (suc place ≡ at)
     on Total w m f n r = absurd (false≢true f)
     on Separator w m f n r = absurd (false≢true f)

@@ -12,14 +12,14 @@ use Rattle.numbers.proofs.Tests.{within}
 use Rattle.group.specs.declared.Entry.{Entry}
 use Rattle.group.specs.declared.Kind.{Kind}
 use Rattle.group.specs.declared.Kind.TheVariants.{Total, Separator, Middle, Start, Last, Entire, Skip}
-use Rattle.group.specs.declared.Meaning.{Meaning}
-use Rattle.group.specs.declared.Meaning.TheVariants.{Known, Unknown}
+use Rattle.group.specs.Flags.{Meaning}
+use Rattle.std.specs.Prelude.{Some, None}
 use Rattle.group.specs.Sizes.{longest_record}
 use Rattle.group.specs.Flags.{meaning_of}
 use Rattle.group.proofs.StateLaws.{sum_small}
 use Rattle.entry.specs.declared.Cursor.{Cursor}
-use Rattle.entry.specs.declared.ScanEnd.{ScanEnd}
-use Rattle.entry.specs.declared.ScanEnd.TheVariants.{Reached, Refused}
+use Rattle.entry.specs.ScanEnd.{ScanEnd}
+use Rattle.entry.specs.ScanEnd.{Reached, Refused}
 use Rattle.entry.specs.declared.Stand.{Stand}
 use Rattle.entry.specs.declared.Stand.TheVariants.{Free, AfterPart, Inside, AfterLast, Owed}
 use Rattle.counts.specs.Counts.{zero_part, above_one, too_long, differs}
@@ -61,8 +61,8 @@ skip_is_last false s m false e h = sym e
 
 fault_told : (size limit : ℕ) (last : Bool) (c : Cursor) (m : Meaning) (count : ℕ) → Told last (entry_fault size limit last c m count) (entry_fault_before size limit last c m count)
 unfolding entry_fault entry_fault_before
-fault_told size limit last c Unknown count = anew refl
-fault_told size limit last c (Known k w) count =
+fault_told size limit last c None count = anew refl
+fault_told size limit last c (Some (k, w)) count =
     order_told last (not (b4_kept c.warned w)) (not (follow_kept c.stand k last)) _ _
     (λ x. counts_told last (zero_part k count) (above_one k count) (too_long k c.sum count) (differs k c.sum count) _ _
     (data_told last (not (room_kept k c.reached count limit)) (not (skip_kept k c.reached count size)) (not (owed_kept k c.stand count))

@@ -10,14 +10,14 @@ use borrow.Author.Tests.{eqb-true}
 use lib.Dec.{eqb}
 use Rattle.group.specs.declared.Entry.{Entry}
 use Rattle.group.specs.declared.Kind.{Kind}
-use Rattle.group.specs.declared.Meaning.{Meaning}
-use Rattle.group.specs.declared.Meaning.TheVariants.{Known, Unknown}
+use Rattle.group.specs.Flags.{Meaning}
+use Rattle.std.specs.Prelude.{Some, None}
 use Rattle.group.specs.Flags.{flag_of, meaning_of}
 use Rattle.group.specs.ForContracts.{Meant}
 use Rattle.group.proofs.FlagLaws.{each, flag_of_meaning}
 use Rattle.entry.specs.declared.Cursor.{Cursor}
-use Rattle.entry.specs.declared.ScanEnd.{ScanEnd}
-use Rattle.entry.specs.declared.ScanEnd.TheVariants.{Reached, Refused}
+use Rattle.entry.specs.ScanEnd.{ScanEnd}
+use Rattle.entry.specs.ScanEnd.{Reached, Refused}
 use Rattle.counts.specs.Counts.{holds_data}
 use Rattle.entry.specs.Rules.{entry_fault}
 use Rattle.entry.specs.Scan.{after, is_last, onward, scan, reached_by}
@@ -34,8 +34,8 @@ went_on fault place c d rest e = by (eqb fault 0) refl e
 
 -- .. and kept the data within the limit, every flag having a meaning.
 reached_is : (c : Cursor) (m : Meaning) (count : ℕ) → (after c m count).reached ≡ reached_by m c.reached count
-reached_is c Unknown count = refl
-reached_is c (Known k w) count = refl
+reached_is c None count = refl
+reached_is c (Some (k, w)) count = refl
 
 pub within : (size limit : ℕ) (es : List Entry) (place : ℕ) (c d : Cursor) → Bounded limit c → scan size limit es place c ≡ Reached d → Within limit c.reached es
 unfolding scan Within

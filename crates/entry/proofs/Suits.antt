@@ -8,15 +8,15 @@ use native.Mathlib.Omega.{arith}
 use Rattle.group.specs.declared.Entry.{Entry}
 use Rattle.group.specs.declared.Kind.{Kind}
 use Rattle.group.specs.declared.Kind.TheVariants.{Total, Separator, Middle, Start, Last, Entire, Skip}
-use Rattle.group.specs.declared.Meaning.{Meaning}
-use Rattle.group.specs.declared.Meaning.TheVariants.{Known, Unknown}
+use Rattle.group.specs.Flags.{Meaning}
+use Rattle.std.specs.Prelude.{Some, None}
 use Rattle.group.specs.Sizes.{longest_record}
 use Rattle.group.specs.Flags.{meaning_of}
 use Rattle.numbers.proofs.Tests.{both, within, is_within}
 use Rattle.entry.specs.declared.Stand.{Stand}
 use Rattle.entry.specs.declared.Stand.TheVariants.{Free, AfterPart, Inside, AfterLast, Owed}
 use Rattle.entry.specs.declared.Cursor.{Cursor}
-use Rattle.entry.specs.declared.ScanEnd.TheVariants.{Reached}
+use Rattle.entry.specs.ScanEnd.{Reached}
 use Rattle.entry.specs.Rules.{may_follow, is_skip, stand_after, sum_after, entry_fault}
 use Rattle.entry.specs.Scan.{after, is_last, scan}
 use Rattle.entry.specs.Reasons.{Suits}
@@ -49,8 +49,8 @@ suits_after Skip stand sum count m f s = s
 
 pub suits_next : (size limit : ℕ) (last : Bool) (c : Cursor) (m : Meaning) (count : ℕ) → entry_fault size limit last c m count ≡ 0
     → Suits c.stand c.sum → Suits (after c m count).stand (after c m count).sum
-suits_next size limit last c Unknown count e s = s
-suits_next size limit last c (Known k w) count e s =
+suits_next size limit last c None count e s = s
+suits_next size limit last c (Some (k, w)) count e s =
     let h = kept size limit last c k w count e in
     suits_after k c.stand c.sum count (both (may_follow c.stand k) (cond last (is_skip k) (not (is_skip k))) h.follow).0 h.counted s
 

@@ -6,3 +6,4 @@ pub mod Scan
 pub mod Bounds
 pub mod Reasons
 pub mod Owing
+pub mod ScanEnd

@@ -4,19 +4,19 @@
 use Rattle.std.specs.Prelude.{ℕ, ◌≤◌, List, [], ◌∷◌, ◌++◌, Bool, false, ◌≡◌}
 use Rattle.group.specs.declared.Entry.{Entry}
 use Rattle.group.specs.declared.Kind.TheVariants.{Last, Skip}
-use Rattle.group.specs.declared.Meaning.TheVariants.{Known}
+use Rattle.std.specs.Prelude.{Some}
 use Rattle.group.specs.Sizes.{entry_offset}
 use Rattle.group.specs.Flags.{meaning_of}
 use Rattle.group.specs.Entries.{entry}
 use Rattle.entry.specs.declared.Stand.TheVariants.{Inside}
-use Rattle.entry.specs.declared.ScanEnd.{ScanEnd}
-use Rattle.entry.specs.declared.ScanEnd.TheVariants.{Reached, Refused}
+use Rattle.entry.specs.ScanEnd.{ScanEnd}
+use Rattle.entry.specs.ScanEnd.{Reached, Refused}
 use Rattle.entry.specs.Scan.{scan}
 
 -- "a group of two entries, last then skip, whose skip count is 44 or more"
 pub data OwedEarly : List Entry → Type 0 where
   last_then_skip : {first second : Entry} (b4 b4Behind : Bool) →
-      meaning_of first.flag ≡ Known Last b4 → meaning_of second.flag ≡ Known Skip b4Behind → 44 ≤ second.count → OwedEarly (first ∷ second ∷ [])
+      meaning_of first.flag ≡ Some (Last, b4) → meaning_of second.flag ≡ Some (Skip, b4Behind) → 44 ≤ second.count → OwedEarly (first ∷ second ∷ [])
 
 -- The refusal and the place of a scan, zeros where it reached its end.
 abbrev pub told_of : ScanEnd → ℕ × ℕ

@@ -5,14 +5,14 @@ use Rattle.std.specs.Prelude.{ℕ, suc, ◌≡◌, List, [], ◌∷◌, Bool, tr
 use Rattle.numbers.specs.Numbers.{between}
 use Rattle.group.specs.declared.Entry.{Entry}
 use Rattle.group.specs.declared.Kind.{Kind}
-use Rattle.group.specs.declared.Meaning.{Meaning}
-use Rattle.group.specs.declared.Meaning.TheVariants.{Known, Unknown}
+use Rattle.group.specs.Flags.{Meaning}
+use Rattle.std.specs.Prelude.{Some, None}
 use Rattle.group.specs.Flags.{meaning_of}
 use Rattle.group.specs.State.{sum_kept}
 use Rattle.entry.specs.declared.Cursor.{Cursor}
 use Rattle.entry.specs.declared.Stand.{Stand}
-use Rattle.entry.specs.declared.ScanEnd.{ScanEnd}
-use Rattle.entry.specs.declared.ScanEnd.TheVariants.{Reached, Refused}
+use Rattle.entry.specs.ScanEnd.{ScanEnd}
+use Rattle.entry.specs.ScanEnd.{Reached, Refused}
 use Rattle.counts.specs.Counts.{zero_part, above_one, too_long, differs}
 use Rattle.entry.specs.Rules.{phase_after, b4_kept, follow_kept, room_kept, skip_kept, or_else}
 use Rattle.entry.specs.Scan.{after, is_last, onward}
@@ -43,8 +43,8 @@ data_fault_before size limit reached k count =
 
 -- "at one entry 8 to 13 in number order"
 unfoldable pub entry_fault_before : (size limit : ℕ) (last : Bool) → Cursor → Meaning → (count : ℕ) → ℕ
-entry_fault_before size limit last c Unknown count = 8
-entry_fault_before size limit last c (Known k warned) count =
+entry_fault_before size limit last c None count = 8
+entry_fault_before size limit last c (Some (k, warned)) count =
     cond (not (b4_kept c.warned warned)) 9
     (cond (not (follow_kept c.stand k last)) 10
     (or_else (count_fault_before k c.sum count) (data_fault_before size limit c.reached k count)))

@@ -6,8 +6,8 @@ use Rattle.group.specs.declared.Kind.{Kind}
 use Rattle.group.specs.declared.Kind.TheVariants.{Total, Separator, Middle, Start, Last, Entire, Skip}
 use Rattle.group.specs.declared.Phase.{Phase}
 use Rattle.group.specs.declared.Phase.TheVariants as phase
-use Rattle.group.specs.declared.Meaning.{Meaning}
-use Rattle.group.specs.declared.Meaning.TheVariants.{Known, Unknown}
+use Rattle.group.specs.Flags.{Meaning}
+use Rattle.std.specs.Prelude.{Some, None}
 use Rattle.group.specs.Sizes.{most_owing}
 use Rattle.counts.specs.Counts.{is_among, holds_data, count_fault}
 use Rattle.entry.specs.declared.Stand.{Stand}
@@ -123,8 +123,8 @@ data_fault size limit stand reached k count =
 -- "at one entry 8 to 13 in number order", where "in its place in the order come" 19 to 22 for 11, and 23 "after 13": the number of the
 -- first rule that is broken, 0 if none is.
 unfoldable pub entry_fault : (size limit : ℕ) (last : Bool) → Cursor → Meaning → (count : ℕ) → ℕ
-entry_fault size limit last c Unknown count = 8
-entry_fault size limit last c (Known k warned) count =
+entry_fault size limit last c None count = 8
+entry_fault size limit last c (Some (k, warned)) count =
     cond (not (b4_kept c.warned warned)) 9
     (cond (not (follow_kept c.stand k last)) 10
     (or_else (count_fault k c.sum count) (data_fault size limit c.stand c.reached k count)))

@@ -2,18 +2,18 @@
 -- Assumes nothing.
 use Rattle.std.specs.Prelude.{ℕ, suc, List, [], ◌∷◌, Bool, true, false, cond, eqb}
 use Rattle.group.specs.declared.Entry.{Entry}
-use Rattle.group.specs.declared.Meaning.{Meaning}
-use Rattle.group.specs.declared.Meaning.TheVariants.{Known, Unknown}
+use Rattle.group.specs.Flags.{Meaning}
+use Rattle.std.specs.Prelude.{Some, None}
 use Rattle.group.specs.Flags.{meaning_of}
 use Rattle.entry.specs.declared.Cursor.{Cursor}
-use Rattle.entry.specs.declared.ScanEnd.{ScanEnd}
-use Rattle.entry.specs.declared.ScanEnd.TheVariants.{Reached, Refused}
+use Rattle.entry.specs.ScanEnd.{ScanEnd}
+use Rattle.entry.specs.ScanEnd.{Reached, Refused}
 use Rattle.entry.specs.Rules.{entry_fault, advance, reached_after}
 
 -- Where the scan stands after an entry.
 abbrev pub after : Cursor → Meaning → ℕ → Cursor
-after c Unknown count = c
-after c (Known k warned) count = advance c k warned count
+after c None count = c
+after c (Some (k, warned)) count = advance c k warned count
 
 -- Entry n has none behind it.
 abbrev pub is_last : List Entry → Bool
@@ -33,5 +33,5 @@ scan size limit (e ∷ es) place c =
 
 -- The data offset reached after an entry.
 abbrev pub reached_by : Meaning → ℕ → ℕ → ℕ
-reached_by Unknown reached count = reached
-reached_by (Known k warned) reached count = reached_after k reached count
+reached_by None reached count = reached
+reached_by (Some (k, warned)) reached count = reached_after k reached count

@@ -3,10 +3,16 @@
 // scan that calls them stands above.
 #![tactic(auto)]
 
+ghost use Rattle.std.specs.Prelude.{◌≡◌};
+ghost use Rattle.answer.specs.Results.{refused};
+
 pub mod rules;
 
-// Where the scan of a group stands among the records.
-#[derive(Clone, Copy)]
+use answer::Refused;
+use answer::refusals::Refusal;
+
+// Where the scan of a group stands among the records, by the row of the table of what may follow.
+#[derive(Clone, Copy, Debug, PartialEq, Eq)]
 pub enum Stand {
     Free,
     AfterPart,
@@ -16,7 +22,7 @@ pub enum Stand {
 }
 
 // What the scan carries from entry to entry.
-#[derive(Clone, Copy)]
+#[derive(Clone, Copy, Debug, PartialEq, Eq)]
 pub struct Cursor {
     pub stand: Stand,
     pub warned: bool,
@@ -24,10 +30,22 @@ pub struct Cursor {
     pub reached: u32,
 }
 
-// How a scan ends: at the table's end, or at the first entry that breaks a rule, with its number, its place and where the
-// scan stood.
-#[derive(Clone, Copy)]
-pub enum ScanEnd {
-    Reached(Cursor),
-    Refused(u32, u32, Cursor),
+// Where a scan stops: the first rule that is broken, the place of the entry that breaks it, and where the scan stood.
+#[derive(Clone, Copy, Debug, PartialEq, Eq)]
+pub struct Stop {
+    pub refusal: Refusal,
+    pub place: u32,
+    pub here: Cursor,
+}
+
+// What a read tells of it.
+impl From<Stop> for Refused<Refusal> {
+    ghost from_gives = { λ s e. e ≡ refused s.refusal s.place };
+
+    fn from(stop: Stop) -> Refused<Refusal> {
+        Refused {
+            refusal: stop.refusal,
+            place: stop.place,
+        }
+    }
 }

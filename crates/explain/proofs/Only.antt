@@ -15,8 +15,8 @@ use Rattle.group.specs.Flags.{meaning_of}
 use Rattle.answer.specs.Answer.{Told}
 use Rattle.answer.specs.Answer.{Accepted, RefusedAt}
 use Rattle.entry.specs.declared.Cursor.{Cursor}
-use Rattle.entry.specs.declared.ScanEnd.{ScanEnd}
-use Rattle.entry.specs.declared.ScanEnd.TheVariants as scanned
+use Rattle.entry.specs.ScanEnd.{ScanEnd}
+use Rattle.entry.specs.ScanEnd as scanned
 use Rattle.entry.specs.Rules.{entry_fault}
 use Rattle.entry.specs.Scan.{is_last, scan}
 use Rattle.reader.specs.declared.Reader.{Reader}
@@ -26,7 +26,7 @@ use Rattle.reader.proofs.Refusals.{one, four, five, six, seven, none}
 use Rattle.reasons.specs.Rules.{Rule, Stop, in_order, rule_number, keeps, first_broken}
 use Rattle.reasons.specs.Reasons.{largest}
 use Rattle.reasons.proofs.Order.{in_order_lem}
-use Rattle.explain.specs.declared.Explanation.{Explanation}
+use Rattle.explain.specs.Explanation.{Explanation}
 use Rattle.explain.specs.Truth.{Keeps, stop_at, Stops, True, SameTold}
 use Rattle.explain.specs.Truth.Keeps.{keeps_none, keeps_more}
 use Rattle.explain.specs.Truth.Stops.{stops_here, stops_later}

@@ -12,10 +12,10 @@ use Rattle.group.specs.Sizes.{entry_offset}
 use Rattle.group.specs.Flags.{meaning_of}
 use Rattle.group.specs.Entries.{entry_at, entries_below}
 use Rattle.entry.specs.declared.Cursor.{Cursor}
-use Rattle.entry.specs.declared.ScanEnd.TheVariants as scanned
+use Rattle.entry.specs.ScanEnd as scanned
 use Rattle.entry.specs.Rules.{entry_fault}
 use Rattle.entry.specs.Scan.{after, is_last, scan}
-use Rattle.explain.specs.declared.Explanation.{Explanation}
+use Rattle.explain.specs.Explanation.{Explanation}
 use Rattle.reasons.specs.Rules.{Rule, Stop, in_order, rule_number, keeps, first_broken}
 use Rattle.reasons.specs.Rules.Rule.{flag_known, b4_stays, kind_follows, part_not_empty, separator_value, record_length, total_sum, data_within, skip_count, total_in_time}
 use Rattle.reasons.specs.Reasons.{entry_reason, reason_at}

@@ -11,13 +11,13 @@ use borrow.Author.Tests.{leb-true, leb-false, eqb-true, eqb-false, le-leb, eq-eq
 use Rattle.numbers.specs.Numbers.{between}
 use Rattle.numbers.proofs.Tests.{both, and, within, is_within}
 use Rattle.group.specs.Sizes.{information_length, entry_length, last_number, entries_kept}
-use Rattle.entry.specs.declared.ScanEnd.{ScanEnd}
-use Rattle.entry.specs.declared.ScanEnd.TheVariants as scanned
+use Rattle.entry.specs.ScanEnd.{ScanEnd}
+use Rattle.entry.specs.ScanEnd as scanned
 use Rattle.reader.specs.declared.Reader.{Reader}
-use Rattle.reader.specs.declared.ReadAnswer.TheVariants as answer
+use Rattle.reader.specs.ReadAnswer as answer
 use Rattle.reader.specs.Answer.{sound, length_kept, repeats, is_repeat, next_is, rows_fit, read_refusal, opening, closing, group_scan, answered, read_call, told}
 use Rattle.reader.proofs.Accepted.{read_scanned}
-use Rattle.explain.specs.declared.Explanation.{Explanation}
+use Rattle.explain.specs.Explanation.{Explanation}
 use Rattle.reasons.specs.Reasons.{reason, next_reason, call_reason, largest}
 use Rattle.explain.specs.Explanation.{explanation, no_refusal, scan_explained, explained}
 use Rattle.explain.specs.Truth.{True, SameTold}

@@ -11,8 +11,8 @@ use Rattle.group.specs.declared.Entry.{Entry}
 use Rattle.group.specs.Sizes.{entry_offset}
 use Rattle.group.specs.Entries.{entry_at}
 use Rattle.entry.specs.declared.Cursor.{Cursor}
-use Rattle.entry.specs.declared.ScanEnd.{ScanEnd}
-use Rattle.entry.specs.declared.ScanEnd.TheVariants as scanned
+use Rattle.entry.specs.ScanEnd.{ScanEnd}
+use Rattle.entry.specs.ScanEnd as scanned
 use Rattle.reader.specs.declared.Reader.{Reader}
 use Rattle.reader.specs.Answer.{is_repeat, read_refusal, group_scan}
 use Rattle.reader.proofs.Accepted.{never_repeat}

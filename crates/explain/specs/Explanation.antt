@@ -1,23 +1,35 @@
 -- Change request 2026-07: "It fills seven 8-byte numbers": the explanation of a read, for every input.
 -- Assumes nothing.
-use Rattle.std.specs.Prelude.{ℕ, ◌/◌, List, cond, eqb, length}
+use Rattle.std.specs.Prelude.{Option, Some, None, ℕ, ◌/◌, List, cond, eqb, length}
 use Rattle.group.specs.Sizes.{entry_offset}
 use Rattle.group.specs.Entries.{entry_at}
-use Rattle.entry.specs.declared.ScanEnd.{ScanEnd}
-use Rattle.entry.specs.declared.ScanEnd.TheVariants.{Reached, Refused}
+use Rattle.entry.specs.ScanEnd.{ScanEnd}
+use Rattle.entry.specs.ScanEnd.{Reached, Refused}
 use Rattle.reader.specs.declared.Reader.{Reader}
 use Rattle.reader.specs.Answer.{is_repeat, read_refusal, group_scan}
 use Rattle.reasons.specs.declared.Reason.{Reason}
 use Rattle.reasons.specs.Reasons.{no_reason, entry_reason, call_reason, stop}
-use Rattle.explain.specs.declared.Explanation.{Explanation}
+use Rattle.answer.specs.Numbers.{refusal_number}
+use Rattle.explain.specs.declared.Explanation as declared
 
 -- "the refusal (0 if accepted), the place, the byte offset of that entry", and why.
+pub record Explanation : Type 0 where
+  pub refusal : ℕ
+  pub place : ℕ
+  pub offset : ℕ
+  pub why : Reason
+
 abbrev pub explanation : (refusal place offset : ℕ) → Reason → Explanation
 explanation refusal place offset why = record { refusal = refusal; place = place; offset = offset; why = why }
 
 -- "0 if accepted", "and for a repeat, zeros stand".
 abbrev pub no_refusal : Explanation
 no_refusal = explanation 0 0 0 no_reason
+
+-- What a result of the code says.
+abbrev pub explanation_of : Option declared.Explanation → Explanation
+explanation_of None = no_refusal
+explanation_of (Some x) = explanation (refusal_number x.refusal) x.place x.offset x.why
 
 abbrev pub scan_explained : (size n : ℕ) (group : List ℕ) → ScanEnd → Explanation
 scan_explained size n group (Reached c) = no_refusal

@@ -11,10 +11,10 @@ use Rattle.entry.specs.Scan.{after, is_last}
 use Rattle.answer.specs.Answer.{Told}
 use Rattle.answer.specs.Answer.{Accepted, RefusedAt}
 use Rattle.reader.specs.declared.Reader.{Reader}
-use Rattle.reader.specs.declared.ReadAnswer.TheVariants as answer
+use Rattle.reader.specs.ReadAnswer as answer
 use Rattle.reader.specs.Answer.{sound, length_kept, repeats, is_repeat, next_is, rows_fit, opening, read_call}
 use Rattle.reasons.specs.declared.Reason.{Reason}
-use Rattle.explain.specs.declared.Explanation.{Explanation}
+use Rattle.explain.specs.Explanation.{Explanation}
 use Rattle.reasons.specs.Rules.{Rule, Stop, in_order, rule_number, keeps}
 use Rattle.reasons.specs.Reasons.{reason, no_reason, largest}
 use Rattle.reasons.specs.Truth.{allowed, found_at, BrokenBy, AllowedBy}

@@ -2,19 +2,20 @@
 // public requires nothing.
 #![tactic(auto)]
 
+ghost use Rattle.explain.specs.Explanation.{explanation_of};
 ghost use Rattle.std.specs.Prelude.{◌≡◌};
 ghost use Rattle.reader.specs.Answer.{is_repeat};
 ghost use Rattle.explain.specs.Explanation.{no_refusal, explained};
 
-use entry::ScanEnd;
+use answer::refusals::Refusal;
 use finding::{call, entries};
 use reader::Reader;
 use reasons::Reason;
 
 // An explanation: the refusal, its place, the byte offset of that entry, and why.
-#[derive(Clone, Copy)]
+#[derive(Clone, Copy, Debug, PartialEq, Eq)]
 pub struct Explanation {
-    pub refusal: u32,
+    pub refusal: Refusal,
     pub place: u32,
     pub offset: u32,
     pub why: Reason,
@@ -24,38 +25,25 @@ pub struct Explanation {
 fn is_repeat(reader: Reader, length: usize, number: u32) -> bool
     ensures { result ≡ is_repeat reader length number }
 {
-    if !reader.is_sound() {
-        return false;
-    }
-    if length != reader.size as usize {
-        return false;
-    }
-    reader.repeats(number)
+    reader.is_sound() && length == reader.size as usize && reader.repeats(number)
 }
 
 impl Explanation {
-    // Of a read that is accepted, or sees a repeat.
-    fn none() -> Explanation
-        ensures { result ≡ no_refusal }
-    {
-        Explanation {
-            refusal: 0,
-            place: 0,
-            offset: 0,
-            why: Reason::none(),
-        }
-    }
-
-    // Of a read that is lent `rows` bytes of rows. Nothing is written.
-    pub fn of(reader: Reader, group: &[u8], number: u32, entries: u32, rows: usize) -> Explanation
-        ensures { result ≡ explained reader group.now number entries rows }
+    // Of a read that is lent `rows` bytes of rows; none where it is accepted, or sees a repeat. Nothing is written.
+    pub fn of(
+        reader: Reader,
+        group: &[u8],
+        number: u32,
+        entries: u32,
+        rows: usize,
+    ) -> Option<Explanation>
+        ensures { explanation_of result ≡ explained reader group.now number entries rows }
     {
         if is_repeat(reader, group.len(), number) {
-            return Explanation::none();
+            return None;
         }
-        let refusal = reader.refusal(group.len(), number, entries, rows / 4);
-        if refusal != 0 {
-            return Explanation {
+        if let Err(refusal) = reader.refusal(group.len(), number, entries, rows / 4) {
+            return Some(Explanation {
                 refusal,
                 place: 0,
                 offset: 0,
@@ -68,21 +56,24 @@ impl Explanation {
                     entries,
                     rows,
                 ),
-            };
+            });
         }
         let opening = reader::ends::opening(reader);
-        match plainly::scan_plainly(group, reader.size, entries, opening) {
-            ScanEnd::Reached(_) => Explanation::none(),
-            ScanEnd::Refused(fault, place, here) => {
-                let offset = entries::entry_offset(reader.size, place);
-                let entry = group::entries::entry_at(group, offset as usize);
-                Explanation {
-                    refusal: fault,
-                    place,
-                    offset,
-                    why: entries::entry_reason(fault, reader.size, entries, place, here, entry),
-                }
-            }
-        }
+        let stop = plainly::scan_plainly(group, reader.size, entries, opening).err()?;
+        let offset = entries::entry_offset(reader.size, stop.place);
+        let entry = group::entries::entry_at(group, offset as usize);
+        Some(Explanation {
+            refusal: stop.refusal,
+            place: stop.place,
+            offset,
+            why: entries::entry_reason(
+                stop.refusal,
+                reader.size,
+                entries,
+                stop.place,
+                stop.here,
+                entry,
+            ),
+        })
     }
 }

@@ -2,8 +2,8 @@
 // ends, and why where it is refused. How a run is read stands in `runfile`, what is printed at each step in `explaining`.
 #![tactic(auto)]
 
-use programs::Program;
+use programs::Explainer;
 
 fn main(rt: HostRuntime) {
-    runfile::run(Program::Explainer, &mut rt.stdin(), &mut rt.stdout())
+    runfile::run(&Explainer, &mut rt.stdin(), &mut rt.stdout())
 }

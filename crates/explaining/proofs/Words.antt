@@ -15,15 +15,15 @@ use Rattle.group.specs.Sizes.{least_size, standard_size, information_length, ent
 use Rattle.group.proofs.StateLaws.{Run, sound_of_run, started}
 use Rattle.entry.specs.declared.Cursor.{Cursor}
 use Rattle.reader.specs.declared.Reader.{Reader}
-use Rattle.reader.specs.declared.ReaderStart.TheVariants as start
-use Rattle.reader.specs.declared.ReadAnswer.TheVariants as answer
+use Rattle.reader.specs.ReaderStart as start
+use Rattle.reader.specs.ReadAnswer as answer
 use Rattle.reader.specs.Answer.{sound, reader_start_call, read_call}
 use Rattle.reader.proofs.Accepted.{none_accepted, begun_at}
 use Rattle.reader.proofs.Accepted as acceptance
 use Rattle.reader.proofs.Sound.{sound_again}
 use Rattle.reasons.specs.Rules.{Rule, rule_number}
 use Rattle.reasons.specs.Rules.Rule.{flag_known, b4_stays, kind_follows, part_not_empty, separator_value, record_length, total_sum, data_within, skip_count, total_in_time}
-use Rattle.explain.specs.declared.Explanation.{Explanation}
+use Rattle.explain.specs.Explanation.{Explanation}
 use Rattle.explain.specs.Explanation.{explained}
 use Rattle.explain.specs.Truth.{Stops, True}
 use Rattle.explain.specs.Truth.Stops.{stops_here, stops_later}

@@ -1,13 +1,11 @@
 // The reason of a refusal before the scan.
 ghost use Rattle.std.specs.Prelude.{◌≡◌};
+ghost use Rattle.answer.specs.Numbers.{refusal_number};
 ghost use Rattle.reasons.specs.Reasons.{next_reason, call_reason};
 
-use crate::kinds;
+use answer::refusals::Refusal;
 use group::Group;
 use reasons::Reason;
-
-// The largest number of eight bytes.
-const LARGEST: u64 = 18446744073709551615;
 
 // 5: the next number alone is allowed, none at 65,536.
 fn next_reason(next: u32, number: u32) -> Reason
@@ -19,9 +17,10 @@ fn next_reason(next: u32, number: u32) -> Reason
     Reason::of(number as u64, 1, 0)
 }
 
-// By its number, in a state of this size and next number.
+// In a state of this size and next number.
+#[tactic(auto, unfolding(reasons::specs::Reasons::call_reason))]
 pub fn call_reason(
-    refusal: u32,
+    refusal: Refusal,
     size: u32,
     next: u32,
     length: usize,
@@ -29,17 +28,17 @@ pub fn call_reason(
     entries: u32,
     rows: usize,
 ) -> Reason
-    ensures { result ≡ call_reason refusal size next length number entries rows }
+    ensures { result ≡ call_reason (refusal_number refusal) size next length number entries rows }
 {
     match refusal {
-        4 => Reason::of(length as u64, size as u64, size as u64),
-        5 => next_reason(next, number),
-        6 => Reason::of(
+        Refusal::Group => Reason::of(length as u64, size as u64, size as u64),
+        Refusal::Number => next_reason(next, number),
+        Refusal::Entries => Reason::of(
             entries as u64,
             1,
-            (kinds::less(size, Group::INFORMATION_LENGTH) / Group::ENTRY_LENGTH) as u64,
+            (size.saturating_sub(Group::INFORMATION_LENGTH) / Group::ENTRY_LENGTH) as u64,
         ),
-        7 => Reason::of(rows as u64, 12 * (entries as u64), LARGEST),
+        Refusal::Rows => Reason::of(rows as u64, 12 * (entries as u64), u64::MAX),
         _ => Reason::none(),
     }
 }

@@ -4,32 +4,21 @@ ghost use Rattle.group.specs.Flags.{meaning_of};
 ghost use Rattle.reasons.specs.Reasons.{permitted, leaves, kind_found, leaves_it};
 
 use entry::Stand;
-use group::{Group, Kind, Meaning};
-
-// The difference, 0 where there is none.
-pub(crate) fn less(a: u32, b: u32) -> u32
-    ensures { result ≡ a - b }
-{
-    if a < b {
-        return 0;
-    }
-    a - b
-}
+use group::{Group, Kind};
 
 // The permitted kinds, as the sum of their values. At the last place a skip alone, 64, or none.
+#[tactic(auto, unfolding(reasons::specs::Reasons::permitted, entry::specs::Rules::may_follow))]
 fn permitted_last(stand: Stand) -> u64
     ensures { result ≡ permitted stand true }
 {
     match stand {
-        Stand::Free => 64,
-        Stand::AfterPart => 64,
-        Stand::Inside => 0,
-        Stand::AfterLast => 64,
-        Stand::Owed => 0,
+        Stand::Free | Stand::AfterPart | Stand::AfterLast => 64,
+        Stand::Inside | Stand::Owed => 0,
     }
 }
 
 // Elsewhere separator, start and entire, middle and last, total, or none.
+#[tactic(auto, unfolding(reasons::specs::Reasons::permitted, entry::specs::Rules::may_follow))]
 pub(crate) fn permitted(stand: Stand, last: bool) -> u64
     ensures { result ≡ permitted stand last }
 {
@@ -40,8 +29,7 @@ pub(crate) fn permitted(stand: Stand, last: bool) -> u64
         Stand::Free => 42,
         Stand::AfterPart => 0,
         Stand::Inside => 20,
-        Stand::AfterLast => 1,
-        Stand::Owed => 1,
+        Stand::AfterLast | Stand::Owed => 1,
     }
 }
 
@@ -50,13 +38,11 @@ fn leaves(kind: Kind, sum: u32) -> u32
     ensures { result ≡ leaves kind sum }
 {
     match kind {
-        Kind::Total => 0,
-        Kind::Separator => 0,
-        Kind::Middle => less(Group::LONGEST_RECORD - 1, sum),
+        Kind::Total | Kind::Separator | Kind::Skip => 0,
+        Kind::Middle => (Group::LONGEST_RECORD - 1).saturating_sub(sum),
         Kind::Start => Group::LONGEST_RECORD - 1,
-        Kind::Last => less(Group::LONGEST_RECORD, sum),
+        Kind::Last => Group::LONGEST_RECORD.saturating_sub(sum),
         Kind::Entire => Group::LONGEST_RECORD,
-        Kind::Skip => 0,
     }
 }
 
@@ -64,18 +50,12 @@ fn leaves(kind: Kind, sum: u32) -> u32
 pub(crate) fn kind_found(flag: u8) -> u32
     ensures { result ≡ kind_found (meaning_of flag) }
 {
-    match group::flags::meaning_of(flag) {
-        Meaning::Known(kind, _) => group::flags::kind_number(kind),
-        Meaning::Unknown => 0,
-    }
+    group::flags::meaning_of(flag).map_or(0, |(kind, _)| u32::from(kind))
 }
 
 // What the sum leaves the kind that has a flag; of no kind, 0.
 pub(crate) fn leaves_it(flag: u8, sum: u32) -> u32
     ensures { result ≡ leaves_it (meaning_of flag) sum }
 {
-    match group::flags::meaning_of(flag) {
-        Meaning::Known(kind, _) => leaves(kind, sum),
-        Meaning::Unknown => 0,
-    }
+    group::flags::meaning_of(flag).map_or(0, |(kind, _)| leaves(kind, sum))
 }

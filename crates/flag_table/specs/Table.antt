@@ -2,15 +2,15 @@
 -- Assumes nothing.
 use Rattle.std.specs.Prelude.{ℕ, ◌+◌, ◌*◌, ◌<◌, ◌≡◌, List, true, false}
 use Rattle.numbers.specs.Numbers.{listed}
-use Rattle.group.specs.declared.Meaning.{Meaning}
-use Rattle.group.specs.declared.Meaning.TheVariants.{Known, Unknown}
+use Rattle.group.specs.Flags.{Meaning}
+use Rattle.std.specs.Prelude.{Some, None}
 use Rattle.group.specs.Flags.{kind_number, meaning_of}
 
 -- Twice the kind's number, one more where b4 is set, and 0 where no kind has the flag.
 abbrev pub code_of : Meaning → ℕ
-code_of (Known k false) = 2 * kind_number k
-code_of (Known k true) = 2 * kind_number k + 1
-code_of Unknown = 0
+code_of (Some (k, false)) = 2 * kind_number k
+code_of (Some (k, true)) = 2 * kind_number k + 1
+code_of None = 0
 
 -- By a flag's high half and its low half: the code of what it means.
 unfoldable pub flag_table : List (List ℕ)

@@ -6,7 +6,7 @@ ghost use Rattle.std.specs.Prelude.{◌≡◌};
 ghost use Rattle.group.specs.Flags.{meaning_of};
 ghost use Rattle.flag_table.specs.Table.{code_of, flag_table, Below};
 
-use group::Meaning;
+use group::{Kind, Meaning};
 
 // By a flag's high half and its low half: the code of what it means, which is twice the kind's number, one more where b4 is
 // set, and 0 where no kind has the flag.
@@ -52,11 +52,6 @@ pub fn meaning_in(flags: &[[u8; 16]; 16], flag: u8) -> Meaning
     ensures { result ≡ meaning_of flag }
 {
     let code = code_in(flags, flag);
-    if code < 2 {
-        return Meaning::Unknown;
-    }
-    Meaning::Known(
-        group::flags::kind_numbered(code / 2),
-        group::flags::b4(flag),
-    )
+    let kind = Kind::try_from(code / 2).ok()?;
+    Some((kind, group::flags::b4(flag)))
 }

@@ -6,14 +6,15 @@ use mathlib.Core.List.{List, [], ◌∷◌}
 use Prim.Native.Nat.{ℕ, ◌+◌, ◌-◌, ◌/◌, ◌%◌, ◌<◌}
 use native.Mathlib.Omega.{arith}
 use borrow.Author.Rules.{rules}
-use borrow.Author.Tests.{eqb-true}
+use borrow.Author.Tests.{eqb-true, eqb-false}
 use lib.Bits.{bit_and, bit_or}
 use lib.Dec.{T, eqb, ltb, eqb→eq}
 use lib.ListN.{get_or}
 use Rattle.group.specs.declared.Kind.{Kind}
 use Rattle.group.specs.declared.Kind.TheVariants.{Total, Separator, Middle, Start, Last, Entire, Skip}
-use Rattle.group.specs.declared.Meaning.{Meaning}
-use Rattle.group.specs.declared.Meaning.TheVariants.{Known, Unknown}
+use Rattle.group.specs.Flags.{Meaning}
+use Rattle.std.specs.Bool.{then_some}
+use Rattle.std.specs.Prelude.{Some, None}
 use Rattle.group.specs.Flags.{kinds, kind_number, flag_of, meaning_among, meaning_of, b4_of, with_b4}
 use Rattle.group.specs.ForContracts.{Meant}
 use Rattle.numbers.proofs.Computed.{below}
@@ -42,22 +43,27 @@ each P h Entire = either (P Entire) h.entire
 each P h Skip = either (P Skip) h.skip
 
 -- A kind's flag means that kind with that b4.
-pub meaning_of_flag : (k : Kind) (w : Bool) → meaning_of (flag_of k w) ≡ Known k w
+pub meaning_of_flag : (k : Kind) (w : Bool) → meaning_of (flag_of k w) ≡ Some (k, w)
 unfolding meaning_of
-meaning_of_flag = each (λ (k : Kind) (w : Bool). meaning_of (flag_of k w) ≡ Known k w) (search rules)
+meaning_of_flag = each (λ (k : Kind) (w : Bool). meaning_of (flag_of k w) ≡ Some (k, w)) (search rules)
 
 -- .. and nothing else has that meaning.
-among : (ks : List Kind) (flag : ℕ) (k : Kind) (w : Bool) → meaning_among ks flag ≡ Known k w → flag ≡ flag_of k w
+-- The flag that has a meaning.
+abbrev flag_in : Meaning → ℕ
+flag_in None = 0
+flag_in (Some (k, w)) = flag_of k w
+
+among : (ks : List Kind) (flag : ℕ) (k : Kind) (w : Bool) → meaning_among ks flag ≡ Some (k, w) → flag ≡ flag_of k w
 among [] flag k w e = let z : ◌≡◌ {A = ℕ} 0 1 = cc in absurd (omega arith)
 among (j ∷ ks) flag k w e = by (among ks flag k w) (eqb flag (flag_of j false)) refl (eqb flag (flag_of j true)) refl e
   where
-    by : (meaning_among ks flag ≡ Known k w → flag ≡ flag_of k w) → (a : Bool) → eqb flag (flag_of j false) ≡ a → (b : Bool) → eqb flag (flag_of j true) ≡ b
-        → cond a (Known j false) (cond b (Known j true) (meaning_among ks flag)) ≡ Known k w → flag ≡ flag_of k w
-    by others true x b y e = cc (eqb-true flag (flag_of j false) x)
-    by others false x true y e = cc (eqb-true flag (flag_of j true) y)
+    by : (meaning_among ks flag ≡ Some (k, w) → flag ≡ flag_of k w) → (a : Bool) → eqb flag (flag_of j false) ≡ a → (b : Bool) → eqb flag (flag_of j true) ≡ b
+        → cond a (Some (j, false)) (cond b (Some (j, true)) (meaning_among ks flag)) ≡ Some (k, w) → flag ≡ flag_of k w
+    by others true x b y e = eqb-true flag (flag_of j false) x ∙ ap flag_in e
+    by others false x true y e = eqb-true flag (flag_of j true) y ∙ ap flag_in e
     by others false x false y e = others e
 
-pub flag_of_meaning : (flag : ℕ) (k : Kind) (w : Bool) → meaning_of flag ≡ Known k w → flag ≡ flag_of k w
+pub flag_of_meaning : (flag : ℕ) (k : Kind) (w : Bool) → meaning_of flag ≡ Some (k, w) → flag ≡ flag_of k w
 unfolding meaning_of
 flag_of_meaning flag k w e = among kinds flag k w e
 
@@ -69,7 +75,7 @@ flag_small = each (λ (k : Kind) (w : Bool). flag_of k w < 256) (search rules)
 pub b4_of_flag : (k : Kind) (w : Bool) → b4_of (flag_of k w) ≡ w
 b4_of_flag = each (λ (k : Kind) (w : Bool). b4_of (flag_of k w) ≡ w) (search rules)
 
-pub b4_of_meaning : (flag : ℕ) (k : Kind) (w : Bool) → meaning_of flag ≡ Known k w → b4_of flag ≡ w
+pub b4_of_meaning : (flag : ℕ) (k : Kind) (w : Bool) → meaning_of flag ≡ Some (k, w) → b4_of flag ≡ w
 b4_of_meaning flag k w e = ap b4_of (flag_of_meaning flag k w e) ∙ b4_of_flag k w
 
 -- A kind's flag with b4 set is its flag for b4 = 1.
@@ -109,12 +115,12 @@ pub kind_is_lem : (j k : Kind) → kind_number j ≡ kind_number k → j ≡ k
 kind_is_lem j k e = sym (by_number j) ∙ ap (λ (n : ℕ). get_or (Skip ∷ kinds) n Skip) e ∙ by_number k
 
 -- A flag has a meaning or has none.
-pub meant_or : {P : Type 0} (flag : ℕ) → (meaning_of flag ≡ Unknown → P) → (Meant flag → P) → P
+pub meant_or : {P : Type 0} (flag : ℕ) → (meaning_of flag ≡ None → P) → (Meant flag → P) → P
 meant_or {P} flag none some = by (meaning_of flag) refl
   where
     by : (m : Meaning) → meaning_of flag ≡ m → P
-    by Unknown e = none e
-    by (Known k w) e = some (record { kind = k; warned = w; is = e })
+    by None e = none e
+    by (Some (k, w)) e = some (record { kind = k; warned = w; is = e })
 
 -- What the bits of a flag tell, computed at each of the fourteen: the number of its kind.
 abbrev pub number_by_bits : ℕ → ℕ
@@ -131,5 +137,20 @@ pub flag_again : (flag : ℕ) (k : Kind) (m : Meant flag) → k ≡ m.kind → f
 flag_again flag k m e = rw (e, b4_of_meaning flag m.kind m.warned m.is, ← flag_of_meaning flag m.kind m.warned m.is)
 
 -- .. and where that is so of a kind, it is what the flag means.
-pub meaning_again : (flag : ℕ) (k : Kind) (w : Bool) → flag_of k w ≡ flag → Known k w ≡ meaning_of flag
+pub meaning_again : (flag : ℕ) (k : Kind) (w : Bool) → flag_of k w ≡ flag → Some (k, w) ≡ meaning_of flag
 meaning_again flag k w e = sym (meaning_of_flag k w) ∙ ap meaning_of e
+
+-- A number that no kind has is that of no flag's meaning ..
+pub means_none : {n : ℕ} (flag : ℕ) → ((m : Meant flag) → n ≡ kind_number m.kind) → ((k : Kind) → n ≡ kind_number k → ⊥) → None ≡ meaning_of flag
+means_none flag number no_kind = meant_or flag (λ e. sym e) (λ m. absurd (no_kind m.kind (number m)))
+
+-- .. and of the kind that has it, the flag tells whether it is meant.
+pub means_kind : {n : ℕ} (flag : ℕ) (k : Kind) → ((m : Meant flag) → n ≡ kind_number m.kind) → n ≡ kind_number k
+    → then_some (eqb (flag_of k (b4_of flag)) flag) (k, b4_of flag) ≡ meaning_of flag
+means_kind {n} flag k number e = by (eqb (flag_of k (b4_of flag)) flag) refl
+  where
+    by : (b : Bool) → eqb (flag_of k (b4_of flag)) flag ≡ b → then_some b (k, b4_of flag) ≡ meaning_of flag
+    by true h = meaning_again flag k (b4_of flag) (eqb-true (flag_of k (b4_of flag)) flag h)
+    by false h = meant_or flag (λ no. sym no) (λ m.
+        let same = flag_again flag k m (kind_is_lem k m.kind (sym e ∙ number m)) in
+        absurd (eqb-false (flag_of k (b4_of flag)) flag h same))

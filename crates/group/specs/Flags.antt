@@ -1,10 +1,8 @@
 -- Document 01, "The group": the seven kinds of entry, their flags, and bit b4.
 -- Assumes nothing.
-use Rattle.std.specs.Prelude.{ℕ, ◌+◌, ◌/◌, ◌%◌, List, [], ◌∷◌, Bool, true, false, cond, eqb}
+use Rattle.std.specs.Prelude.{ℕ, Option, Some, None, ◌+◌, ◌/◌, ◌%◌, List, [], ◌∷◌, Bool, true, false, cond, eqb}
 use Rattle.group.specs.declared.Kind.{Kind}
 use Rattle.group.specs.declared.Kind.TheVariants.{Total, Separator, Middle, Start, Last, Entire, Skip}
-use Rattle.group.specs.declared.Meaning.{Meaning}
-use Rattle.group.specs.declared.Meaning.TheVariants.{Known, Unknown}
 
 -- The table's column "kind".
 abbrev pub kind_number : Kind → ℕ
@@ -33,14 +31,18 @@ flag_of Entire true = 0x6B
 flag_of Skip false = 0x80
 flag_of Skip true = 0x88
 
+-- What a flag byte means: a kind and its bit b4, or nothing.
+abbrev pub Meaning : Type 0
+Meaning = Option (Kind × Bool)
+
 abbrev pub kinds : List Kind
 kinds = Total ∷ Separator ∷ Middle ∷ Start ∷ Last ∷ Entire ∷ Skip ∷ []
 
 abbrev pub meaning_among : List Kind → ℕ → Meaning
-meaning_among [] flag = Unknown
+meaning_among [] flag = None
 meaning_among (k ∷ ks) flag =
-    cond (eqb flag (flag_of k false)) (Known k false)
-    (cond (eqb flag (flag_of k true)) (Known k true) (meaning_among ks flag))
+    cond (eqb flag (flag_of k false)) (Some (k, false))
+    (cond (eqb flag (flag_of k true)) (Some (k, true)) (meaning_among ks flag))
 
 -- What a flag means: the kind that has it, with its b4. "No other flag is valid."
 unfoldable pub meaning_of : ℕ → Meaning

@@ -2,26 +2,45 @@
 ghost use Rattle.std.specs.Prelude.{◌≡◌, false};
 ghost use Rattle.group.specs.declared.Kind.{Kind};
 ghost use Rattle.group.specs.Flags.{kind_number, flag_of, meaning_of, b4_of, with_b4};
-ghost use Rattle.group.specs.ForContracts.{Meant};
+ghost use Rattle.group.specs.ForContracts.{Meant, Numbered};
 
 use crate::{Kind, Meaning};
 
 // The number that stands for a kind in a row.
-pub fn kind_number(kind: Kind) -> u32
-    ensures { result ≡ kind_number kind }
-{
-    match kind {
-        Kind::Total => 1,
-        Kind::Separator => 2,
-        Kind::Middle => 3,
-        Kind::Start => 4,
-        Kind::Last => 5,
-        Kind::Entire => 6,
-        Kind::Skip => 7,
+impl From<Kind> for u32 {
+    ghost from_gives = { λ k n. n ≡ kind_number k };
+
+    fn from(kind: Kind) -> u32 {
+        kind as u32
+    }
+}
+
+// A number that stands for no kind.
+#[derive(Clone, Copy, Debug, PartialEq, Eq)]
+pub struct NoKind(pub u8);
+
+// The kind that a number stands for.
+impl TryFrom<u8> for Kind {
+    type Error = NoKind;
+
+    ghost try_from_gives = { Numbered };
+
+    fn try_from(number: u8) -> Result<Kind, NoKind> {
+        match number {
+            1 => Ok(Kind::Total),
+            2 => Ok(Kind::Separator),
+            3 => Ok(Kind::Middle),
+            4 => Ok(Kind::Start),
+            5 => Ok(Kind::Last),
+            6 => Ok(Kind::Entire),
+            7 => Ok(Kind::Skip),
+            _ => Err(NoKind(number)),
+        }
     }
 }
 
 // A flag with b4 set.
+#[tactic(auto, using(crate::proofs::FlagLaws::b4_raised))]
 pub fn with_b4(flag: u8) -> u8
     ensures { result ≡ with_b4 flag }
 {
@@ -29,6 +48,7 @@ pub fn with_b4(flag: u8) -> u8
 }
 
 // Whether b4 is set in a flag.
+#[tactic(auto, using(crate::proofs::FlagLaws::b4_mask))]
 pub fn b4(flag: u8) -> bool
     ensures { result ≡ b4_of flag }
 {
@@ -70,29 +90,13 @@ pub fn number_by_bits(flag: u8) -> u8
     flag / 16 - 1 + second
 }
 
-// The kind of this number, if a kind has it.
-pub fn kind_numbered(number: u8) -> Kind
-    ensures { (k : Kind) → number ≡ kind_number k → result ≡ k }
-{
-    match number {
-        1 => Kind::Total,
-        2 => Kind::Separator,
-        3 => Kind::Middle,
-        4 => Kind::Start,
-        5 => Kind::Last,
-        6 => Kind::Entire,
-        _ => Kind::Skip,
-    }
-}
-
 // What a flag means. Its bits leave one kind, and no other can have it: that kind has it where its flag, with this b4, is this one.
 pub fn meaning_of(flag: u8) -> Meaning
     ensures { result ≡ meaning_of flag }
 {
-    let kind = kind_numbered(number_by_bits(flag));
+    let Ok(kind) = Kind::try_from(number_by_bits(flag)) else {
+        return None;
+    };
     let warned = b4(flag);
-    if flag_of(kind, warned) != flag {
-        return Meaning::Unknown;
-    }
-    Meaning::Known(kind, warned)
+    (flag_of(kind, warned) == flag).then_some((kind, warned))
 }

@@ -7,7 +7,7 @@ pub mod flags;
 pub mod state;
 
 // A Basic Group: the standard's size and the limits of the format.
-#[derive(Clone, Copy)]
+#[derive(Clone, Copy, Debug, PartialEq, Eq)]
 pub struct Group {}
 
 impl Group {
@@ -26,10 +26,10 @@ impl Group {
     pub const MOST_OWING: u32 = 43;
 }
 
-// The kinds of entry, in the order of their numbers.
-#[derive(Clone, Copy)]
+// The kinds of entry, by the numbers that stand for them in a row.
+#[derive(Clone, Copy, Debug, PartialEq, Eq)]
 pub enum Kind {
-    Total,
+    Total = 1,
     Separator,
     Middle,
     Start,
@@ -39,21 +39,17 @@ pub enum Kind {
 }
 
 // What a flag byte means: a kind and its bit b4, or nothing.
-#[derive(Clone, Copy)]
-pub enum Meaning {
-    Known(Kind, bool),
-    Unknown,
-}
+pub type Meaning = Option<(Kind, bool)>;
 
 // An entry as it stands in a group.
-#[derive(Clone, Copy)]
+#[derive(Clone, Copy, Debug, PartialEq, Eq)]
 pub struct Entry {
     pub flag: u8,
     pub count: u32,
 }
 
 // Where a group leaves the run: between records, inside one, or with a total owed.
-#[derive(Clone, Copy)]
+#[derive(Clone, Copy, Debug, PartialEq, Eq)]
 pub enum Phase {
     Free,
     Inside,

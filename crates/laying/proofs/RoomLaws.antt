@@ -1,13 +1,17 @@
 -- Laws of the room: how far below zero it goes, what a fit says of the state's numbers, and what fills a group inside a record.
 -- Assumes nothing.
-use mathlib.Core.Path.{◌≡◌, refl}
+use mathlib.Core.Path.{◌≡◌, refl, sym, subst}
 use mathlib.Core.Bool.{Bool, true, false, cond}
 use Prim.Native.Nat.{ℕ, ◌+◌, ◌*◌, ◌-◌, ◌≤◌, ◌<◌}
 use native.Mathlib.Omega.{arith}
+use mathlib.Core.List.{List}
 use lib.IntN.{pos, negsuc, nat_abs}
+use lib.ListN.{length, take}
+use lib.Seq.{length-take-le}
 use lib.Signed.{le_z}
 use Rattle.group.specs.Sizes.{least_size, information_length, entry_length}
 use Rattle.laying.specs.declared.Writer.{Writer}
+use Rattle.laying.specs.declared.Fit.{Fit}
 use Rattle.laying.specs.declared.Fit.TheVariants as fit
 use Rattle.laying.specs.Room.{room, fit_of, separator_fits, middle_length, last_with_total}
 use Rattle.laying.specs.Bounds.{Fitted, span}
@@ -39,6 +43,17 @@ fitted n s = by _ _ refl _ refl (omega arith) (omega arith)
         let some = le_sub least s.size (beside s) y in
         rw (natural s.size (beside s) (omega arith)) (omega (arith, lt_sub n s.size (beside s) x))
     by least false x false y low high = omega (arith, lt_sub least s.size (beside s) y)
+
+-- .. by the ways that it goes in.
+pub fitted_entire : (n : ℕ) (s : Writer) → fit.Entire ≡ fit_of n (room s) → span (s.filled + n) (s.entries + 2) ≤ s.size
+fitted_entire n s e = subst (λ (f : Fit). Fitted f n s) (sym e) (fitted n s)
+
+pub fitted_start : (n r : ℕ) (s : Writer) → fit.Start r ≡ fit_of n (room s) → (1 ≤ r) × ((r < n) × (span (s.filled + r) (s.entries + 2) ≡ s.size))
+fitted_start n r s e = subst (λ (f : Fit). Fitted f n s) (sym e) (fitted n s)
+
+-- A start has as many bytes as the fit says.
+pub start_long : (r : ℕ) (bytes : List ℕ) (s : Writer) → fit.Start r ≡ fit_of (length bytes) (room s) → length (take r bytes) ≡ r
+start_long r bytes s e = length-take-le r bytes (omega (arith, fitted_start (length bytes) r s e))
 
 -- A separator that fits leaves room for a skip.
 pub separator_fits_lem : (s : Writer) → separator_fits (room s) ≡ true → span s.filled (s.entries + 2) ≤ s.size

@@ -8,8 +8,8 @@ use borrow.Author.Tests.{eqb-true}
 use lib.Dec.{eqb}
 use Rattle.group.specs.State.{start_refusal}
 use Rattle.laying.specs.declared.Writer.{Writer}
-use Rattle.laying.specs.declared.WriterStart.{WriterStart}
-use Rattle.laying.specs.declared.WriterStart.TheVariants as start
+use Rattle.laying.specs.WriterStart.{WriterStart}
+use Rattle.laying.specs.WriterStart as start
 use Rattle.laying.specs.Start.{fresh_state, writer_start_call}
 
 -- L and the first number are in range, and the state is the fresh one.

@@ -5,3 +5,4 @@ pub mod Room
 pub mod Laying
 pub mod Bounds
 pub mod Worked
+pub mod WriterStart

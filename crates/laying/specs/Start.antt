@@ -4,8 +4,8 @@ use Rattle.std.specs.Prelude.{ℕ, false, cond, eqb}
 use Rattle.group.specs.declared.Phase.TheVariants.{Free}
 use Rattle.group.specs.State.{start_refusal}
 use Rattle.laying.specs.declared.Writer.{Writer}
-use Rattle.laying.specs.declared.WriterStart.{WriterStart}
-use Rattle.laying.specs.declared.WriterStart.TheVariants as start
+use Rattle.laying.specs.WriterStart.{WriterStart}
+use Rattle.laying.specs.WriterStart as start
 
 -- "A writer starts the same way": free, with nothing laid.
 abbrev pub fresh_state : (size first : ℕ) → Writer

@@ -11,6 +11,7 @@ use group::{Kind, Phase, entries, flags};
 use numbers::bytes;
 
 // One entry more, below those that stand.
+#[tactic(auto, unfolding(crate::specs::Laying::lay_entry))]
 pub fn lay_entry(w: Writer, group: &mut [u8], kind: Kind, count: u32) -> Writer
     requires { Roomy w group.old }
     ensures group_after { desk result group.new ≡ lay_entry kind count (desk w group.old) }
@@ -20,12 +21,11 @@ pub fn lay_entry(w: Writer, group: &mut [u8], kind: Kind, count: u32) -> Writer
     let at = room::entry_offset(w.size, entries) as usize;
     let flag = flags::flag_of(kind, w.warned);
     entries::put_entry(group, at, flag, count);
-    let mut v = w;
-    v.entries = entries;
-    v
+    Writer { entries, ..w }
 }
 
 // Data after the data that stands, and its entry.
+#[tactic(auto, unfolding(crate::specs::Laying::lay_part, crate::specs::Laying::lay_data))]
 pub fn lay_part(w: Writer, group: &mut [u8], kind: Kind, data: &[u8]) -> Writer
     requires roomy { Roomy w group.old }
     requires entries_bound { span (w.filled + length «data».now) (w.entries + 1) ≤ w.size }
@@ -34,8 +34,10 @@ pub fn lay_part(w: Writer, group: &mut [u8], kind: Kind, data: &[u8]) -> Writer
 {
     let n = data.len() as u32;
     bytes::put_bytes(group, w.filled as usize, data);
-    let mut v = w;
-    v.filled = w.filled + n;
+    let v = Writer {
+        filled: w.filled + n,
+        ..w
+    };
     lay_entry(v, group, kind, n)
 }
 
@@ -45,18 +47,15 @@ pub fn moved(w: Writer, phase: Phase, sum: u32, rest: u32) -> Writer
     ensures grown { Grown result w 0 0 }
 {
     Writer {
-        size: w.size,
-        next: w.next,
         phase,
-        warned: w.warned,
         sum,
         rest,
-        filled: w.filled,
-        entries: w.entries,
+        ..w
     }
 }
 
 // The skip, zeros in the gap, and the state at the next group.
+#[tactic(auto, unfolding(crate::specs::Laying::shut, crate::specs::Laying::zero_gap, crate::specs::Laying::lay_skip))]
 pub fn shut(w: Writer, group: &mut [u8]) -> Writer
     requires roomy { Roomy w group.old }
     requires next_le_last_number { w.next ≤ last_number }
@@ -66,26 +65,28 @@ pub fn shut(w: Writer, group: &mut [u8]) -> Writer
     let from = v.filled as usize;
     let to = room::entry_offset(v.size, v.entries) as usize;
     bytes::put_zeros(group, from, to);
-    let mut state = v;
-    state.next = v.next + 1;
-    state.filled = 0;
-    state.entries = 0;
-    state
+    Writer {
+        next: v.next + 1,
+        filled: 0,
+        entries: 0,
+        ..v
+    }
 }
 
 // b4 as the call says: once set it stays.
+#[tactic(auto, unfolding(crate::specs::Laying::warn_state))]
 fn warn_state(w: Writer, warn: bool) -> Writer
     ensures value { result ≡ warn_state warn w }
     ensures grown { Grown result w 0 0 }
 {
-    let mut v = w;
-    if warn {
-        v.warned = true;
+    Writer {
+        warned: warn || w.warned,
+        ..w
     }
-    v
 }
 
 // b4 is set, and an owed total is laid.
+#[tactic(auto, unfolding(crate::specs::Laying::warn_state, crate::specs::Laying::ready, crate::specs::Laying::pay_owed, crate::specs::Laying::moved))]
 pub fn ready(w: Writer, group: &mut [u8], warn: bool) -> Writer
     requires { Ready w group.old }
     ensures group_after { desk result group.new ≡ ready warn (desk w group.old) }
@@ -93,13 +94,9 @@ pub fn ready(w: Writer, group: &mut [u8], warn: bool) -> Writer
     ensures grown { w.phase ≡ phase.Inside → (Grown result w 0 0) × (result.sum ≡ w.sum) }
 {
     let v = warn_state(w, warn);
-    let phase = w.phase;
-    match phase {
-        Phase::Free => v,
-        Phase::Inside => v,
-        Phase::Owed => {
-            let paid = lay_entry(v, group, Kind::Total, v.sum);
-            moved(paid, Phase::Free, 0, 0)
-        }
+    if w.phase != Phase::Owed {
+        return v;
     }
+    let paid = lay_entry(v, group, Kind::Total, v.sum);
+    moved(paid, Phase::Free, 0, 0)
 }

@@ -5,14 +5,17 @@
 pub mod lay;
 pub mod room;
 
+ghost use Rattle.answer.specs.Numbers.{refusal_number};
+ghost use Rattle.laying.specs.WriterStart.{start_of};
 ghost use Rattle.std.specs.Prelude.{◌≡◌};
 ghost use Rattle.laying.specs.Start.{writer_start_call};
 
+use answer::refusals::Refusal;
 use group::Phase;
 
 // A writer's state. The two fields that are one byte wide stand together: a struct is copied in words, and a word that is part
 // byte, part padding makes the processor wait.
-#[derive(Clone, Copy)]
+#[derive(Clone, Copy, Debug, PartialEq, Eq)]
 pub struct Writer {
     pub size: u32,
     pub next: u32,
@@ -24,23 +27,14 @@ pub struct Writer {
     pub entries: u32,
 }
 
-// A start's answer: the state, or the number of the refusal.
-#[derive(Clone, Copy)]
-pub enum WriterStart {
-    Started(Writer),
-    Refused(u32),
-}
-
 impl Writer {
     // A fresh writer: free, with nothing laid.
-    pub fn start(size: u32, first: u32) -> WriterStart
-        ensures { result ≡ writer_start_call size first }
+    #[tactic(auto, unfolding(crate::specs::Start::writer_start_call), using(answer::specs::NotZero::refusal_not_zero))]
+    pub fn start(size: u32, first: u32) -> Result<Writer, Refusal>
+        ensures { start_of refusal_number result ≡ writer_start_call size first }
     {
-        let refusal = group::state::start_refusal(size, first);
-        if refusal != 0 {
-            return WriterStart::Refused(refusal);
-        }
-        WriterStart::Started(Writer {
+        group::state::start_refusal(size, first)?;
+        Ok(Writer {
             size,
             next: first,
             phase: Phase::Free,
@@ -54,7 +48,7 @@ impl Writer {
 }
 
 // How a record goes into the room of a free writer: whole, as a start of so many bytes, or not at all.
-#[derive(Clone, Copy)]
+#[derive(Clone, Copy, Debug, PartialEq, Eq)]
 pub enum Fit {
     Entire,
     Start(u32),

@@ -16,6 +16,7 @@ pub fn entry_offset(size: u32, k: u32) -> u32
 }
 
 // The room: a signed number from -4 on.
+#[tactic(auto, unfolding(crate::specs::Room::room), using(crate::proofs::SignedLaws::minus_four_fits, crate::proofs::SignedLaws::minus_four, crate::proofs::SignedLaws::sub_eq))]
 pub fn room(w: Writer) -> i64
     requires { span w.filled (w.entries + 1) ≤ w.size }
     ensures { result ≡ room w }
@@ -31,9 +32,8 @@ pub fn fit(w: Writer, n: u32) -> Fit
 {
     let r = room(w);
     if (n as i64) <= r {
-        return Fit::Entire;
-    }
-    if r >= 1 {
+        Fit::Entire
+    } else if r >= 1 {
         Fit::Start(r as u32)
     } else {
         Fit::Close

@@ -11,20 +11,20 @@ use Rattle.numbers.proofs.Tests.{both}
 use Rattle.group.specs.declared.Entry.{Entry}
 use Rattle.group.specs.declared.Kind.{Kind}
 use Rattle.group.specs.declared.Kind.TheVariants.{Total, Separator, Middle, Start, Last, Entire, Skip}
-use Rattle.group.specs.declared.Meaning.{Meaning}
-use Rattle.group.specs.declared.Meaning.TheVariants.{Known, Unknown}
+use Rattle.group.specs.Flags.{Meaning}
+use Rattle.std.specs.Prelude.{Some, None}
 use Rattle.group.specs.Sizes.{information_length, entry_offset}
 use Rattle.group.specs.Flags.{meaning_of}
 use Rattle.group.specs.Entries.{entries_below}
 use Rattle.group.proofs.EntryLaws.{length_entries}
 use Rattle.entry.specs.declared.Cursor.{Cursor}
-use Rattle.entry.specs.declared.ScanEnd.TheVariants.{Reached}
+use Rattle.entry.specs.ScanEnd.{Reached}
 use Rattle.entry.specs.Rules.{may_follow, reached_after, entry_fault}
 use Rattle.entry.specs.Scan.{after, scan}
 use Rattle.entry.proofs.Faults.{Kept, kept, unknown_fault}
 use Rattle.entry.proofs.Scans.{went_on}
 use Rattle.reader.specs.declared.Reader.{Reader}
-use Rattle.reader.specs.declared.ReadAnswer.TheVariants as answer
+use Rattle.reader.specs.ReadAnswer as answer
 use Rattle.reader.specs.Answer.{opening, group_scan, read_call}
 use Rattle.reader.proofs.Accepted.{accepted}
 use Rattle.layout.specs.Items.{Each}
@@ -40,10 +40,10 @@ no e = let z : ◌≡◌ {A = ℕ} 0 1 = cc in absurd (omega arith)
 
 -- An entry before the last moves the data by what it adds; the last one adds what is left.
 moves : (size limit : ℕ) (c : Cursor) (m : Meaning) (count : ℕ) → entry_fault size limit false c m count ≡ 0 → ((after c m count).reached ≡ c.reached + adds m count) × ((after c m count).reached ≤ limit)
-moves size limit c Unknown count e = absurd (unknown_fault size limit false c count e)
-moves size limit c (Known k w) count e = by k (kept size limit false c k w count e)
+moves size limit c None count e = absurd (unknown_fault size limit false c count e)
+moves size limit c (Some (k, w)) count e = by k (kept size limit false c k w count e)
   where
-    by : (k : Kind) → Kept size limit false c k w count → (reached_after k c.reached count ≡ c.reached + adds (Known k w) count) × (reached_after k c.reached count ≤ limit)
+    by : (k : Kind) → Kept size limit false c k w count → (reached_after k c.reached count ≡ c.reached + adds (Some (k, w)) count) × (reached_after k c.reached count ≤ limit)
     by Total h = (omega arith, leb-true _ _ h.room)
     by Separator h = (omega arith, leb-true _ _ h.room)
     by Middle h = (refl, leb-true _ _ h.room)
@@ -53,10 +53,10 @@ moves size limit c (Known k w) count e = by k (kept size limit false c k w count
     by Skip h = no (sym (both (may_follow c.stand Skip) false h.follow).1)
 
 ends : (size limit : ℕ) (c : Cursor) (m : Meaning) (count : ℕ) → entry_fault size limit true c m count ≡ 0 → adds m count ≡ size - c.reached
-ends size limit c Unknown count e = absurd (unknown_fault size limit true c count e)
-ends size limit c (Known k w) count e = by k (kept size limit true c k w count e)
+ends size limit c None count e = absurd (unknown_fault size limit true c count e)
+ends size limit c (Some (k, w)) count e = by k (kept size limit true c k w count e)
   where
-    by : (k : Kind) → Kept size limit true c k w count → adds (Known k w) count ≡ size - c.reached
+    by : (k : Kind) → Kept size limit true c k w count → adds (Some (k, w)) count ≡ size - c.reached
     by Skip h = eqb-true count (size - c.reached) h.skip
     by Total h = no (sym (both (may_follow c.stand Total) false h.follow).1)
     by Separator h = no (sym (both (may_follow c.stand Separator) false h.follow).1)

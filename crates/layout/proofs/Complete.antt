@@ -18,8 +18,8 @@ use Rattle.numbers.proofs.Tests.{within, is_within}
 use Rattle.reader.specs.declared.Reader.{Reader}
 use Rattle.entry.specs.declared.Stand.{Stand}
 use Rattle.entry.specs.declared.Stand.TheVariants.{Free}
-use Rattle.reader.specs.declared.ReaderStart.TheVariants as start
-use Rattle.reader.specs.declared.ReadAnswer.TheVariants as answer
+use Rattle.reader.specs.ReaderStart as start
+use Rattle.reader.specs.ReadAnswer as answer
 use Rattle.entry.specs.Rules.{stand_at, b4_kept}
 use Rattle.reader.specs.Answer.{fresh, accepted_kept, reader_start_call, opening, closing, group_scan, read_call}
 use Rattle.reader.proofs.Accepted.{Ready, accepts, none_accepted}

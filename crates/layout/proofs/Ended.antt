@@ -14,8 +14,8 @@ use Rattle.laying.specs.declared.Writer.{Writer}
 use Rattle.laying.specs.Laying.{Desk, desk, lay_entry, lay_data, lay_part, moved, ready}
 use Rattle.sound.specs.State.{is_owed, ends_empty}
 use Rattle.sound.proofs.Accepted.{ends_empty_lem}
-use Rattle.writer.specs.declared.WriteAnswer.{WriteAnswer}
-use Rattle.writer.specs.declared.WriteAnswer.TheVariants.{Finished, Closed, Refused}
+use Rattle.writer.specs.WriteAnswer.{WriteAnswer}
+use Rattle.writer.specs.WriteAnswer.{Finished, Closed, Refused}
 use Rattle.writer.specs.Calls.{Done, done, finished, closed, or_refused, record_accepted, record_call, separator_call, end_call, Call, call, told, state_of}
 use Rattle.writer.specs.Calls.Call.{a_record, a_separator, an_end}
 use Rattle.writer.proofs.CallLaws.{RecordedFree, recorded_free, RecordedInside, recorded_inside, SeparatorLaid, separator_laid, EndLaid, end_laid}

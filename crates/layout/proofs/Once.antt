@@ -8,7 +8,7 @@ use mathlib.Core.Logic.{◌↔◌}
 use lib.ListN.{length, get_or}
 use Rattle.group.proofs.StateLaws.{started}
 use Rattle.reader.specs.declared.Reader.{Reader}
-use Rattle.reader.specs.declared.ReaderStart.TheVariants as start
+use Rattle.reader.specs.ReaderStart as start
 use Rattle.reader.specs.Answer.{fresh, reader_start_call}
 use Rattle.reader.proofs.Accepted.{begun_at}
 use Rattle.layout.specs.Items.{Item, Each}

@@ -14,8 +14,8 @@ use Rattle.group.proofs.EntryLaws.{length_entries}
 use Rattle.rows.proofs.Filling.{length_rows}
 use Rattle.reader.specs.declared.Reader.{Reader}
 use Rattle.entry.specs.declared.Stand.{Stand}
-use Rattle.reader.specs.declared.ReadAnswer.{ReadAnswer}
-use Rattle.reader.specs.declared.ReadAnswer.TheVariants as answer
+use Rattle.reader.specs.ReadAnswer.{ReadAnswer}
+use Rattle.reader.specs.ReadAnswer as answer
 use Rattle.rows.specs.Rows.{rows_from}
 use Rattle.reader.specs.Answer.{fresh, read_call, group_rows, rows_left}
 use Rattle.reader.proofs.Accepted.{accepted}

@@ -10,8 +10,8 @@ use lib.ListN.{length, get_or}
 use borrow.Author.Tests.{eq-eqb, ne_eqb}
 use Rattle.group.proofs.StateLaws.{sound_of_run}
 use Rattle.reader.specs.declared.Reader.{Reader}
-use Rattle.entry.specs.declared.ScanEnd.TheVariants.{Reached}
-use Rattle.reader.specs.declared.ReadAnswer.TheVariants as answer
+use Rattle.entry.specs.ScanEnd.{Reached}
+use Rattle.reader.specs.ReadAnswer as answer
 use Rattle.reader.specs.Answer.{closing, repeats, read_refusal, read_call, group_rows, rows_left}
 use Rattle.reader.proofs.Accepted.{Ready, Passed, accepted, not_repeat, read_refused_lem}
 use Rattle.layout.specs.Items.{Each}

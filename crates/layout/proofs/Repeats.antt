@@ -10,7 +10,7 @@ use lib.Dec.{eqb}
 use lib.ListN.{length}
 use borrow.Author.Tests.{eqb-true, eqb-false, eq-eqb, ne_eqb}
 use Rattle.reader.specs.declared.Reader.{Reader}
-use Rattle.reader.specs.declared.ReadAnswer.TheVariants as answer
+use Rattle.reader.specs.ReadAnswer as answer
 use Rattle.reader.specs.Answer.{sound, repeats, read_call, group_rows, rows_left}
 use Rattle.reader.proofs.Accepted.{accepted, accepts, is_repeat_lem, read_repeated}
 use Rattle.reader.proofs.Repeats.{repeat_last}

@@ -18,9 +18,9 @@ use Rattle.entry.specs.declared.Stand.TheVariants as stand
 use Rattle.entry.specs.Rules.{stand_at}
 use Rattle.reader.specs.Answer.{fresh}
 use Rattle.laying.specs.declared.Writer.{Writer}
-use Rattle.laying.specs.declared.WriterStart.TheVariants as start
-use Rattle.writer.specs.declared.WriteAnswer.{WriteAnswer}
-use Rattle.writer.specs.declared.WriteAnswer.TheVariants.{Finished, Closed}
+use Rattle.laying.specs.WriterStart as start
+use Rattle.writer.specs.WriteAnswer.{WriteAnswer}
+use Rattle.writer.specs.WriteAnswer.{Finished, Closed}
 use Rattle.laying.specs.Laying.{Desk, desk}
 use Rattle.writer.specs.Calls.{Call, call}
 use Rattle.layout.specs.Items.{Piece, grouped}

@@ -17,7 +17,7 @@ use Rattle.numbers.proofs.Tests.{and}
 use Rattle.group.proofs.FlagLaws.{meaning_of_flag}
 use Rattle.entry.specs.declared.Stand.{Stand}
 use Rattle.entry.specs.declared.Cursor.{Cursor}
-use Rattle.entry.specs.declared.ScanEnd.TheVariants.{Reached}
+use Rattle.entry.specs.ScanEnd.{Reached}
 use Rattle.entry.specs.Rules.{may_follow, is_skip, may_owe, stand_at, phase_after, advance, b4_kept, reached_after}
 use Rattle.entry.specs.Scan.{is_last, scan}
 use Rattle.entry.proofs.Faults.{Kept, no_fault}

@@ -19,7 +19,7 @@ use Rattle.group.specs.Flags.{meaning_of}
 use Rattle.group.specs.State.{run_sound, start_refusal}
 use Rattle.group.proofs.EntryLaws.{length_table}
 use Rattle.reader.specs.declared.Reader.{Reader}
-use Rattle.reader.specs.declared.ReaderStart.TheVariants as start
+use Rattle.reader.specs.ReaderStart as start
 use Rattle.entry.specs.Rules.{may_follow, entry_fault}
 use Rattle.entry.specs.Scan.{scan}
 use Rattle.rows.specs.Rows.{rows_from}

@@ -20,7 +20,7 @@ use Rattle.reader.specs.declared.Reader.{Reader}
 use Rattle.entry.specs.declared.Stand.{Stand}
 use Rattle.entry.specs.declared.Stand.TheVariants.{Free}
 use Rattle.entry.specs.declared.Cursor.{Cursor}
-use Rattle.reader.specs.declared.ReadAnswer.TheVariants as answer
+use Rattle.reader.specs.ReadAnswer as answer
 use Rattle.entry.specs.Rules.{stand_at, b4_kept}
 use Rattle.reader.specs.Answer.{fresh, opening, closing, group_scan, read_call}
 use Rattle.reader.proofs.Accepted.{Ready, Passed, accepted}

@@ -12,8 +12,8 @@ use borrow.Author.Tests.{leb-true, eqb-true, not-true}
 use Rattle.group.specs.declared.Entry.{Entry}
 use Rattle.group.specs.declared.Kind.{Kind}
 use Rattle.group.specs.declared.Kind.TheVariants.{Total, Separator, Middle, Start, Last, Entire, Skip}
-use Rattle.group.specs.declared.Meaning.{Meaning}
-use Rattle.group.specs.declared.Meaning.TheVariants.{Known, Unknown}
+use Rattle.group.specs.Flags.{Meaning}
+use Rattle.std.specs.Prelude.{Some, None}
 use Rattle.group.specs.Entries.{entry}
 use Rattle.group.specs.Flags.{flag_of, meaning_of}
 use Rattle.numbers.proofs.Tests.{both}
@@ -21,7 +21,7 @@ use Rattle.group.proofs.FlagLaws.{flag_of_meaning}
 use Rattle.group.proofs.EntryLaws.{Small}
 use Rattle.entry.specs.declared.Stand.{Stand}
 use Rattle.entry.specs.declared.Cursor.{Cursor}
-use Rattle.entry.specs.declared.ScanEnd.TheVariants.{Reached}
+use Rattle.entry.specs.ScanEnd.{Reached}
 use Rattle.entry.specs.Rules.{may_follow, is_skip, stand_at, phase_after, advance, b4_kept, reached_after, room_kept, entry_fault}
 use Rattle.entry.specs.Scan.{after, scan}
 use Rattle.entry.proofs.Faults.{Kept, kept, unknown_fault}
@@ -47,8 +47,8 @@ meant : (size limit : ℕ) (last : Bool) (c : Cursor) (e : Entry) → entry_faul
 meant size limit last c e h = by (meaning_of e.flag) refl h
   where
     by : (m : Meaning) → meaning_of e.flag ≡ m → entry_fault size limit last c m e.count ≡ 0 → Meant size limit last c e (after c m e.count)
-    by Unknown f h = absurd (unknown_fault size limit last c e.count h)
-    by (Known k w) f h = record { kind = k; warned = w; flags = flag_of_meaning e.flag k w f; kept = kept size limit last c k w e.count h; leads = refl }
+    by None f h = absurd (unknown_fault size limit last c e.count h)
+    by (Some (k, w)) f h = record { kind = k; warned = w; flags = flag_of_meaning e.flag k w f; kept = kept size limit last c k w e.count h; leads = refl }
 
 -- The piece of an entry that is no skip, with its bytes from the group.
 record Made (g : List ℕ) (reached : ℕ) (k : Kind) (count : ℕ) : Type 0 where

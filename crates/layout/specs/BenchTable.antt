@@ -8,14 +8,14 @@ use Rattle.answer.specs.Answer.{numbers_told}
 use Rattle.group.specs.declared.Phase.{Phase}
 use Rattle.group.specs.declared.Phase.TheVariants as phase
 use Rattle.reader.specs.declared.Reader.{Reader}
-use Rattle.reader.specs.declared.ReaderStart.{ReaderStart}
-use Rattle.reader.specs.declared.ReaderStart.TheVariants as reader_start
-use Rattle.reader.specs.declared.ReadAnswer.{ReadAnswer}
+use Rattle.reader.specs.ReaderStart.{ReaderStart}
+use Rattle.reader.specs.ReaderStart as reader_start
+use Rattle.reader.specs.ReadAnswer.{ReadAnswer}
 use Rattle.reader.specs.Answer as read
-use Rattle.laying.specs.declared.WriterStart.{WriterStart}
-use Rattle.laying.specs.declared.WriterStart.TheVariants as writer_start
-use Rattle.writer.specs.declared.WriteAnswer.{WriteAnswer}
-use Rattle.writer.specs.declared.WriteAnswer.TheVariants.{Finished, Closed, Refused}
+use Rattle.laying.specs.WriterStart.{WriterStart}
+use Rattle.laying.specs.WriterStart as writer_start
+use Rattle.writer.specs.WriteAnswer.{WriteAnswer}
+use Rattle.writer.specs.WriteAnswer.{Finished, Closed, Refused}
 use Rattle.laying.specs.Laying.{Desk, desk, warn_state}
 use Rattle.writer.specs.Calls as write
 use Rattle.writer.specs.Calls.{Call, call}

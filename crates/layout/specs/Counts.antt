@@ -2,8 +2,8 @@
 -- Assumes nothing.
 use Rattle.std.specs.Prelude.{ℕ, ◌+◌, ◌-◌, List, [], ◌∷◌, ◌≡◌, cond, leb}
 use Rattle.group.specs.declared.Entry.{Entry}
-use Rattle.group.specs.declared.Meaning.{Meaning}
-use Rattle.group.specs.declared.Meaning.TheVariants.{Known, Unknown}
+use Rattle.group.specs.Flags.{Meaning}
+use Rattle.std.specs.Prelude.{Some, None}
 use Rattle.group.specs.Sizes.{information_length}
 use Rattle.group.specs.Flags.{kind_number, meaning_of}
 use Rattle.group.specs.Entries.{entries_below}
@@ -11,8 +11,8 @@ use Rattle.layout.specs.Layout.{Image}
 
 -- What an entry adds: its count, where its kind is one of 3 to 7.
 abbrev pub adds : Meaning → ℕ → ℕ
-adds (Known k warned) count = cond (leb 3 (kind_number k)) count 0
-adds Unknown count = 0
+adds (Some (k, warned)) count = cond (leb 3 (kind_number k)) count 0
+adds None count = 0
 
 -- What entries add together.
 unfoldable pub add_up : List Entry → ℕ

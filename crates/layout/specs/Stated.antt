@@ -7,7 +7,7 @@ use Rattle.group.specs.Sizes.{entry_offset}
 use Rattle.group.specs.Flags.{b4_of}
 use Rattle.group.specs.Entries.{entry_at}
 use Rattle.reader.specs.declared.Reader.{Reader}
-use Rattle.reader.specs.declared.ReadAnswer.TheVariants as answer
+use Rattle.reader.specs.ReadAnswer as answer
 use Rattle.reader.specs.Answer.{read_call}
 use Rattle.layout.specs.Items.{Item}
 use Rattle.layout.specs.Layout.{Image, Lays}

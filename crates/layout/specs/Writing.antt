@@ -6,9 +6,9 @@ use Rattle.group.specs.declared.Phase.{Phase}
 use Rattle.group.specs.declared.Phase.TheVariants.{Free, Inside, Owed}
 use Rattle.group.specs.Sizes.{information_length}
 use Rattle.laying.specs.declared.Writer.{Writer}
-use Rattle.laying.specs.declared.WriterStart.TheVariants as start
-use Rattle.writer.specs.declared.WriteAnswer.{WriteAnswer}
-use Rattle.writer.specs.declared.WriteAnswer.TheVariants.{Finished, Closed, Refused}
+use Rattle.laying.specs.WriterStart as start
+use Rattle.writer.specs.WriteAnswer.{WriteAnswer}
+use Rattle.writer.specs.WriteAnswer.{Finished, Closed, Refused}
 use Rattle.laying.specs.Laying.{Desk, desk}
 use Rattle.writer.specs.Calls.{Call, call}
 use Rattle.writer.specs.Calls.Call.{a_record, a_separator, an_end}

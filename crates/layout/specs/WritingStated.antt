@@ -4,7 +4,7 @@
 use Rattle.std.specs.Prelude.{ℕ, ◌≤◌, List, [], ◌∷◌, ◌++◌, ◌≡◌, length}
 use Rattle.group.specs.declared.Phase.TheVariants as phase
 use Rattle.reader.specs.declared.Reader.{Reader}
-use Rattle.reader.specs.declared.ReaderStart.TheVariants as start
+use Rattle.reader.specs.ReaderStart as start
 use Rattle.reader.specs.Answer.{reader_start_call}
 use Rattle.laying.specs.Laying.{Desk}
 use Rattle.layout.specs.Items.{Piece}

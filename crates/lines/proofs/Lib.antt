@@ -1,2 +1,2 @@
--- A law for the crate above: which numbers the rows' lines are made of.
+-- Laws of the rows' lines: none, one more, and which numbers they are made of.
 pub mod RowLaws

@@ -1,103 +1,107 @@
-// The lines that are printed, added to a text one after the other. Each function answers where what it added ends, and has a
-// `requires` for the room that it needs at most.
+// The lines that are printed, each added to the end of a text. Each function has a `requires` for the room that its lines need at most.
 #![tactic(auto)]
 
-ghost use Rattle.std.specs.Prelude.{◌+◌, ◌*◌, ◌≤◌, length};
-ghost use Rattle.words.specs.Added.{Added};
+ghost use Rattle.std.specs.Prelude.{◌+◌, ◌*◌, ◌≤◌, ◌≡◌, ◌++◌, length};
+ghost use Rattle.words.specs.Added.{text_length, Added};
 ghost use Rattle.lines.specs.Text.{ending, group_line, row_line, row_lines, group_lines, repeat_line, refusal_line, end_line, bad_line};
 
 use group::Phase;
-use words::{add, add_byte, add_field, add_kind, add_labelled};
+use words::Text;
 
 // The words that end a run in a phase.
-fn add_ending(text: &mut [u8], at: usize, phase: Phase) -> usize
-    requires { at + 10 ≤ length text.old }
-    ensures { Added 10 text.old at (ending phase) text.new result }
+#[tactic(auto, unfolding(crate::specs::Text::ending))]
+fn ending(phase: Phase) -> &'static [u8]
+    ensures words { result.now ≡ ending phase }
+    ensures few { length result.now ≤ 10 }
 {
     match phase {
-        Phase::Free => add(text, at, b"end free"),
-        Phase::Inside => add(text, at, b"end inside"),
-        Phase::Owed => add(text, at, b"end owed"),
+        Phase::Free => b"end free",
+        Phase::Inside => b"end inside",
+        Phase::Owed => b"end owed",
     }
 }
 
 // One row's line: name, offset, count.
-fn add_row(text: &mut [u8], at: usize, kind: u32, offset: u32, count: u32) -> usize
-    requires { at + 32 ≤ length text.old }
-    ensures { Added 32 text.old at (row_line kind offset count) text.new result }
+#[tactic(auto, unfolding(crate::specs::Text::row_line))]
+fn add_row(text: &mut Text, kind: u32, offset: u32, count: u32)
+    requires { length text.old + 32 ≤ text_length }
+    ensures { Added 32 text.old (row_line kind offset count) text.new }
 {
-    let named = add_kind(text, at, kind);
-    let reached = add_field(text, named, offset);
-    let counted = add_field(text, reached, count);
-    add_byte(text, counted, b'\n')
+    text.add_kind(kind as u64);
+    text.add_field(offset);
+    text.add_field(count);
+    text.add_byte(b'\n');
 }
 
 // The lines of the first n rows.
-fn add_rows(text: &mut [u8], at: usize, n: usize, rows: &[u32]) -> usize
-    requires { (at + 32 * n ≤ length text.old) × (3 * n ≤ length rows.now) }
-    ensures { Added (32 * n) text.old at (row_lines n rows.now) text.new result }
+#[tactic(auto, using(crate::proofs::RowLaws::no_rows, crate::proofs::RowLaws::one_row_more, std::proofs::lemmas::Grind::common_steps))]
+fn add_rows(text: &mut Text, n: usize, rows: &[u32])
+    requires { (length text.old + 32 * n ≤ text_length) × (3 * n ≤ length rows.now) }
+    ensures { Added (32 * n) text.old (row_lines n rows.now) text.new }
 {
-    let mut end = at;
-    let mut i = 0;
-    while i < n {
-        end = add_row(text, end, rows[3 * i], rows[3 * i + 1], rows[3 * i + 2]);
-        i += 1;
+    for i in 0..n {
+        add_row(text, rows[3 * i], rows[3 * i + 1], rows[3 * i + 2]);
     }
-    end
 }
 
 // The line of a group: its number and its entry count.
-fn add_head(text: &mut [u8], at: usize, number: u32, entries: u32) -> usize
-    requires { at + 36 ≤ length text.old }
-    ensures { Added 36 text.old at (group_line number entries) text.new result }
+#[tactic(auto, unfolding(crate::specs::Text::group_line))]
+fn add_head(text: &mut Text, number: u32, entries: u32)
+    requires { length text.old + 36 ≤ text_length }
+    ensures { Added 36 text.old (group_line number entries) text.new }
 {
-    let numbered = add_labelled(text, at, b"group", number);
-    let counted = add_labelled(text, numbered, b" entries", entries);
-    add_byte(text, counted, b'\n')
+    text.add_labelled(b"group", number);
+    text.add_labelled(b" entries", entries);
+    text.add_byte(b'\n');
 }
 
 // All lines of a group.
-pub fn add_group(text: &mut [u8], at: usize, number: u32, entries: u32, rows: &[u32]) -> usize
-    requires { (at + (36 + 32 * entries) ≤ length text.old) × (3 * entries ≤ length rows.now) }
-    ensures { Added (36 + 32 * entries) text.old at (group_lines number entries rows.now) text.new result }
+#[tactic(auto, unfolding(crate::specs::Text::group_lines))]
+pub fn add_group(text: &mut Text, number: u32, entries: u32, rows: &[u32])
+    requires { (length text.old + (36 + 32 * entries) ≤ text_length) × (3 * entries ≤ length rows.now) }
+    ensures { Added (36 + 32 * entries) text.old (group_lines number entries rows.now) text.new }
 {
-    let below = add_head(text, at, number, entries);
-    add_rows(text, below, entries as usize, rows)
+    add_head(text, number, entries);
+    add_rows(text, entries as usize, rows);
 }
 
 // The line of a repeat.
-pub fn add_repeat(text: &mut [u8], at: usize, number: u32) -> usize
-    requires { at + 18 ≤ length text.old }
-    ensures { Added 18 text.old at (repeat_line number) text.new result }
+#[tactic(auto, unfolding(crate::specs::Text::repeat_line))]
+pub fn add_repeat(text: &mut Text, number: u32)
+    requires { length text.old + 18 ≤ text_length }
+    ensures { Added 18 text.old (repeat_line number) text.new }
 {
-    let numbered = add_labelled(text, at, b"repeat", number);
-    add_byte(text, numbered, b'\n')
+    text.add_labelled(b"repeat", number);
+    text.add_byte(b'\n');
 }
 
 // The line of a refusal.
-pub fn add_refusal(text: &mut [u8], at: usize, refusal: u32, place: u32) -> usize
-    requires { at + 33 ≤ length text.old }
-    ensures { Added 33 text.old at (refusal_line refusal place) text.new result }
+#[tactic(auto, unfolding(crate::specs::Text::refusal_line))]
+pub fn add_refusal(text: &mut Text, refusal: u32, place: u32)
+    requires { length text.old + 33 ≤ text_length }
+    ensures { Added 33 text.old (refusal_line refusal place) text.new }
 {
-    let numbered = add_labelled(text, at, b"refused", refusal);
-    let placed = add_labelled(text, numbered, b" at", place);
-    add_byte(text, placed, b'\n')
+    text.add_labelled(b"refused", refusal);
+    text.add_labelled(b" at", place);
+    text.add_byte(b'\n');
 }
 
 // The line that ends a run.
-pub fn add_end(text: &mut [u8], at: usize, phase: Phase, sum: u32) -> usize
-    requires { at + 22 ≤ length text.old }
-    ensures { Added 22 text.old at (end_line phase sum) text.new result }
+#[tactic(auto, unfolding(crate::specs::Text::end_line))]
+pub fn add_end(text: &mut Text, phase: Phase, sum: u32)
+    requires { length text.old + 22 ≤ text_length }
+    ensures { Added 22 text.old (end_line phase sum) text.new }
 {
-    let ended = add_ending(text, at, phase);
-    let summed = add_field(text, ended, sum);
-    add_byte(text, summed, b'\n')
+    text.add(ending(phase));
+    text.add_field(sum);
+    text.add_byte(b'\n');
 }
 
 // The line of a run that is not what document 01 asks for.
-pub fn add_bad(text: &mut [u8], at: usize) -> usize
-    requires { at + 13 ≤ length text.old }
-    ensures { Added 13 text.old at bad_line text.new result }
+#[tactic(auto, unfolding(crate::specs::Text::bad_line))]
+pub fn add_bad(text: &mut Text)
+    requires { length text.old + 13 ≤ text_length }
+    ensures { Added 13 text.old bad_line text.new }
 {
-    add(text, at, b"bad run file\n")
+    text.add(b"bad run file\n");
 }

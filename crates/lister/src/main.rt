@@ -2,8 +2,8 @@
 // stands in `runfile`, what is printed at each step in `telling`.
 #![tactic(auto)]
 
-use programs::Program;
+use programs::Lister;
 
 fn main(rt: HostRuntime) {
-    runfile::run(Program::Lister, &mut rt.stdin(), &mut rt.stdout())
+    runfile::run(&Lister, &mut rt.stdin(), &mut rt.stdout())
 }

@@ -4,7 +4,9 @@ use mathlib.Core.Path.{◌≡◌, refl, sym, ap, ◌∙◌}
 use mathlib.Core.List.{List, [], ◌∷◌, ◌++◌, append_assoc}
 use Prim.Native.Nat.{ℕ, ◌+◌, ◌*◌, ◌/◌, ◌%◌}
 use native.Mathlib.Omega.{arith}
+use native.Mathlib.Nat.{div-one}
 use lib.ListN.{length}
+use Rattle.std.specs.Int.{w64, to_be_bytes}
 use Rattle.numbers.specs.Store.{put}
 use Rattle.numbers.specs.Numbers.{bytes_of, in_bytes, in_eights}
 use Rattle.numbers.proofs.Stores.{put_put}
@@ -69,3 +71,8 @@ as_halves old at (n ∷ ns) =
 
 pub eights_whole : (old ns : List ℕ) → length old ≡ 8 * length ns → puts_eight old 0 ns ≡ in_eights ns
 eights_whole old ns e = as_halves old 0 ns ∙ puts_whole old (halves ns) (omega (arith, length_halves ns)) ∙ in_halves ns
+
+-- The number as eight bytes, by std's word for them.
+pub eight_bytes : (n : ℕ) → to_be_bytes w64 n ≡ bytes_of 8 n
+unfolding bytes_of
+eight_bytes n = rw div-one

@@ -2,16 +2,18 @@
 -- end holds, and what zeros are.
 -- Assumes nothing.
 use mathlib.Core.Path.{◌≡◌, refl, sym, ap, ◌∙◌}
-use mathlib.Core.Bool.{true}
+use mathlib.Core.Bool.{true, ◌&&◌}
 use mathlib.Core.List.{List, [], ◌∷◌, ◌++◌, append_assoc, append-nil}
-use Prim.Native.Nat.{ℕ, zero, suc, ◌+◌, ◌-◌, ◌≤◌, ◌<◌, zero-le}
+use Prim.Native.Nat.{ℕ, zero, suc, ◌+◌, ◌-◌, ◌≤◌}
 use native.Mathlib.Numerals.{add-one, add-two, add-three}
 use native.Mathlib.Omega.{arith}
 use native.Mathlib.Nat.{add-zero}
 use borrow.Author.Tests.{eqb-true}
 use lib.Dec.{eqb}
-use lib.ListN.{length, get_or, set, take, drop, replicate, length-set, length-append, length-drop}
-use lib.Seq.{length-sets, sets-eq, paste, paste-zero, paste-suc, take-length, take-set-le, drop-set-lt, length-take-le, drop_at, take-append_seam, take_all, drop-length}
+use borrow.Rule.Slice.PartMut.{put_mid}
+use lib.ListN.{length, set, take, drop, replicate, length-set, length-append, length-drop}
+use lib.Seq.{drop-drop, length-sets, sets-eq, take-set-le, drop-set-lt, length-take-le, drop_at, take-append_seam, take_all, drop-length}
+use Rattle.std.specs.List.{list_all}
 use Rattle.numbers.specs.Store.{put, zeros}
 use Rattle.numbers.proofs.Tests.{both}
 
@@ -100,34 +102,15 @@ pub put_three : (old : List ℕ) (at a b c : ℕ) → set (set (set old at a) (a
 unfolding put
 put_three old at a b c = rw (add-one at, add-two at)
 
--- A loop that stores `new` over `old` from index `at` on, after i turns.
-pub record Stored (old : List ℕ) (at : ℕ) (new group : List ℕ) (i : ℕ) : Type 0 where
-  pub within : i ≤ length new
-  pub long : length group ≡ length old
-  pub same : group ≡ paste old at new i
-
-pub stored_none : (old : List ℕ) (at : ℕ) (new : List ℕ) → Stored old at new old 0
-stored_none old at new = record { within = zero-le; long = refl; same = paste-zero old at new }
-
-pub stored_turn : {old new group : List ℕ} {at i : ℕ} (v : ℕ) → at + length new ≤ length old → i < length new → v ≡ get_or new i 0
-    → Stored old at new group i → Stored old at new (set group (at + i) v) (i + 1)
-stored_turn {old} {new} {group} {at} {i} v fits more e s =
-    record {
-      within = omega arith;
-      long = simp length-set s.long;
-      same = rw (e, s.same, add-one) (paste-suc old at new i 0 (omega arith) more);
-    }
-
-pub stored_whole : {old new group : List ℕ} {at i : ℕ} → at + length new ≤ length old → i ≡ length new
-    → Stored old at new group i → group ≡ put old at new
-stored_whole {old} {new} {group} {at} {i} fits all s =
-    s.same ∙ ap (λ (n : ℕ). paste old at new n) all ∙ rw (put_split old at new fits, take-length new)
-
 -- All that follows the first n.
 pub take_rest : (n : ℕ) (l : List ℕ) → take (length l - n) (drop n l) ≡ drop n l
 take_rest n l = take_all (length l - n) (drop n l) (omega (arith, length-drop n l))
 
 -- Zeros, and what they are.
+pub zeros_all : (bytes : List ℕ) → list_all (λ byte. eqb byte 0) bytes ≡ zeros bytes
+zeros_all [] = refl
+zeros_all (byte ∷ bytes) = ap (λ more. eqb byte 0 && more) (zeros_all bytes)
+
 pub zeros_made : (n : ℕ) → zeros (replicate n 0) ≡ true
 zeros_made zero = refl
 zeros_made (suc n) = zeros_made n
@@ -137,3 +120,7 @@ zeros_are [] e = refl
 zeros_are (byte ∷ bytes) e =
     let p = both (eqb byte 0) (zeros bytes) e in
     cc (eqb-true byte 0 p.0, zeros_are bytes p.1)
+
+-- A slice's part written over is a store.
+pub put_part : (old : List ℕ) (at k : ℕ) (new : List ℕ) → at + length new ≤ length old → k ≡ length new → put_mid at k old new ≡ put old at new
+put_part old at k new fits e = rw (e, drop-drop (length new) at old, put_split old at new fits) (sym (append_assoc (take at old) new (drop (at + length new) old)))

@@ -7,34 +7,38 @@ ghost use Rattle.std.specs.Prelude.{◌≡◌, ◌-◌};
 ghost use Rattle.group.specs.Sizes.{information_length, entry_offset};
 ghost use Rattle.group.specs.Entries.{entries_below};
 ghost use Rattle.entry.specs.Scan.{scan};
+ghost use Rattle.entry.specs.ScanEnd.{end_of};
 ghost use Rattle.entry.specs.Bounds.{Cut, Bounded};
 
-use entry::{Cursor, ScanEnd, rules};
+use entry::{Cursor, Stop, rules};
 use group::Group;
 
 // Entry by entry downward from the table's top, stopping at the first that breaks a rule.
-pub fn scan_plainly(group: &[u8], size: u32, entries: u32, opening: Cursor) -> ScanEnd
+pub fn scan_plainly(group: &[u8], size: u32, entries: u32, opening: Cursor) -> Result<Cursor, Stop>
     requires { (Cut group.now size entries) × Bounded (entry_offset size entries) opening }
-    ensures { result ≡ scan size (entry_offset size entries) (entries_below group.now (size - information_length) entries) 1 opening }
+    ensures { end_of result ≡ scan size (entry_offset size entries) (entries_below group.now (size - information_length) entries) 1 opening }
 {
     let limit = size - Group::INFORMATION_LENGTH - Group::ENTRY_LENGTH * entries;
-    let mut left = entries;
     let mut here = opening;
-    let outcome = loop {
-        if left == 0 {
-            break ScanEnd::Reached(here);
-        }
-        left = left - 1;
+    for left in (0..entries).rev() {
         let at = limit + Group::ENTRY_LENGTH * left;
         let entry = group::entries::entry_at(group, at as usize);
-        let count = entry.count;
         let meaning = group::flags::meaning_of(entry.flag);
-        let follows = rules::follows();
-        let fault = rules::entry_fault(&follows, size, limit, left == 0, here, meaning, count);
-        if fault != 0 {
-            break ScanEnd::Refused(fault, entries - left, here);
+        if let Err(refusal) = rules::entry_fault(
+            size,
+            limit,
+            left == 0,
+            here,
+            meaning,
+            entry.count,
+        ) {
+            return Err(Stop {
+                refusal,
+                place: entries - left,
+                here,
+            });
         }
-        here = rules::advance(here, meaning, count);
-    };
-    outcome
+        here = rules::advance(here, meaning, entry.count);
+    }
+    Ok(here)
 }

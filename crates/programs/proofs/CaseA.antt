@@ -13,7 +13,7 @@ use Rattle.sections.specs.Sections.{section, images_section, groups_section, siz
 use Rattle.words.specs.Words.{decimal_in, decimal, field, labelled, kind_name}
 use Rattle.lines.specs.Text.{group_line, row_line, row_lines, group_lines, refusal_line, ending, end_line, bad_line}
 use Rattle.telling.specs.Telling.{bad_step, start_step, read_step, group_step, end_step}
-use Rattle.programs.specs.declared.Program.TheVariants.{Lister}
+use Rattle.programs.specs.Steps.{Lister}
 use Rattle.programs.specs.Printed.{groups_printed, printed}
 use Rattle.programs.specs.CaseA.{input, output}
 

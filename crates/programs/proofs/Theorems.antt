@@ -7,13 +7,13 @@ use mathlib.Core.List.{List, [], ◌++◌, append_assoc, append-nil}
 use lib.Dec.{leb}
 use lib.ListN.{length, take, drop}
 use Rattle.reader.specs.declared.Reader.{Reader}
-use Rattle.reader.specs.declared.ReaderStart.{ReaderStart}
-use Rattle.reader.specs.declared.ReaderStart.TheVariants as start
-use Rattle.reader.specs.declared.ReadAnswer.{ReadAnswer}
-use Rattle.reader.specs.declared.ReadAnswer.TheVariants as answer
+use Rattle.reader.specs.ReaderStart.{ReaderStart}
+use Rattle.reader.specs.ReaderStart as start
+use Rattle.reader.specs.ReadAnswer.{ReadAnswer}
+use Rattle.reader.specs.ReadAnswer as answer
 use Rattle.reader.specs.Answer.{reader_start_call, read_call, group_rows, told}
 use Rattle.lines.specs.Text.{group_lines, repeat_line, refusal_line, end_line, bad_line}
-use Rattle.explain.specs.declared.Explanation.{Explanation}
+use Rattle.explain.specs.Explanation.{Explanation}
 use Rattle.explain.specs.Explanation.{explained}
 use Rattle.explain.specs.Truth.{SameTold}
 use Rattle.explain.proofs.Theorems.{explained_same}
@@ -24,7 +24,7 @@ use Rattle.sections.specs.Sections.{sections_of, pair_at}
 use Rattle.telling.specs.Telling.{bad_step, step_of_start, start_step, step_of_read, row_numbers, read_step, group_step, end_step}
 use Rattle.reason_lines.specs.Lines.{refused_lines}
 use Rattle.explaining.specs.Steps.{start_explained, started_step, explain_start, reading_step, row_bytes, explain_read, explain_group}
-use Rattle.programs.specs.declared.Program.TheVariants.{Lister, Explainer}
+use Rattle.programs.specs.Steps.{Lister, Explainer}
 use Rattle.programs.specs.Printed.{and_then, groups_printed, sections_printed, printed}
 use Rattle.programs.specs.SameLine.{LastLine, SameLine}
 use Rattle.programs.specs.SameLine.LastLine.{bad, ended, refused}

@@ -1,20 +1,17 @@
 -- Document 01, "Bench program": what a program prints of a whole input, step after step.
 -- Assumes nothing.
-use Rattle.std.specs.Prelude.{ℕ, zero, suc, ◌+◌, ◌*◌, List, [], ◌++◌, leb, length, take, drop}
+use Rattle.std.specs.Prelude.{ℕ, zero, suc, ◌+◌, ◌*◌, List, [], ◌++◌, leb, length, take, drop, Option, Some, None}
 use Rattle.reader.specs.declared.Reader.{Reader}
 use Rattle.sections.specs.declared.Sections.{Sections}
 use Rattle.sections.specs.declared.Sections.TheVariants.{Next, Bad, Whole}
 use Rattle.sections.specs.Sections.{sections_of, pair_at}
-use Rattle.telling.specs.declared.Listed.{Listed}
-use Rattle.telling.specs.declared.Listed.TheVariants.{On, Stopped}
 use Rattle.telling.specs.Telling.{Step, bad_step, end_step}
-use Rattle.programs.specs.declared.Program.{Program}
-use Rattle.programs.specs.Steps.{start_of, group_of}
+use Rattle.programs.specs.Steps.{Program, start_of, group_of}
 
 -- What is printed after a step: nothing where it stopped the run.
-abbrev pub onward : Listed → (Reader → List ℕ) → List ℕ
-onward (On s) rest = rest s
-onward Stopped rest = []
+abbrev pub onward : Option Reader → (Reader → List ℕ) → List ℕ
+onward (Some s) rest = rest s
+onward None rest = []
 
 abbrev pub and_then : Step → (Reader → List ℕ) → List ℕ
 and_then step rest = step.text ++ onward step.then rest

@@ -3,7 +3,7 @@
 use Rattle.std.specs.Prelude.{ℕ, ◌≡◌, List, [], ◌++◌}
 use Rattle.group.specs.declared.Phase.{Phase}
 use Rattle.lines.specs.Text.{refusal_line, end_line, bad_line}
-use Rattle.explain.specs.declared.Explanation.{Explanation}
+use Rattle.explain.specs.Explanation.{Explanation}
 use Rattle.reason_lines.specs.Lines.{where_line, found_line}
 
 -- A line that ends a run, and what is printed behind it: a reason after a refusal, else nothing.

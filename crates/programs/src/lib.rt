@@ -2,46 +2,118 @@
 // why a run is refused.
 #![tactic(auto)]
 
-ghost use Rattle.std.specs.Prelude.{◌+◌, ◌*◌, ◌≤◌, length};
+ghost use Rattle.std.specs.Prelude.{◌+◌, ◌*◌, ◌≤◌, length, is_some, None};
+ghost use Rattle.words.specs.Added.{text_length};
 ghost use Rattle.sections.specs.Sections.{most_groups, pair_at};
 ghost use Rattle.telling.specs.Telling.{longest_text, Tells};
-ghost use Rattle.programs.specs.Steps.{start_of, group_of};
+ghost use Rattle.programs.specs.Steps.{start_of, group_of, refused_start_of, read_of, image_of};
+ghost use Rattle.programs.specs.Steps as programs;
 
-use reader::Reader;
-use telling::Said;
+use reader::{Reader, ReaderStart};
+use sections::Pair;
+use words::Text;
 
-#[derive(Clone, Copy)]
-pub enum Program {
-    Lister,
-    Explainer,
+// A program, by what it tells where the two differ.
+pub trait Program {
+    // Which of the two it is.
+    ghost program: { programs.Program };
+
+    // A start that is refused.
+    fn tell_start_refused(&self, text: &mut Text, refusal: u32, first: u32)
+        requires { length text.old + longest_text ≤ text_length }
+        ensures { Tells (refused_start_of program refusal first) text.old text.new None };
+
+    // The i-th group of the file, whose image is whole.
+    fn tell_read(
+        &self,
+        text: &mut Text,
+        i: u32,
+        reader: Reader,
+        image: &[u8],
+        pair: Pair,
+    ) -> Option<Reader>
+        requires { length text.old + longest_text ≤ text_length }
+        ensures { Tells (read_of program i reader image.now pair) text.old text.new result };
 }
 
-// The sections are whole: the first pair's number starts the run.
-pub fn tell_start(program: Program, text: &mut [u8], size: u32, bytes: &[u8]) -> Said
-    requires { (longest_text ≤ length text.old) × (16 ≤ length bytes.now) }
-    ensures { Tells (start_of program size (pair_at bytes.now 0)) text.old text.new result }
-{
-    match program {
-        Program::Lister => telling::tell_start(text, size, bytes),
-        Program::Explainer => explaining::tell_start(text, size, bytes),
+pub struct Lister;
+
+impl Program for Lister {
+    ghost program = { programs.Lister };
+
+    fn tell_start_refused(&self, text: &mut Text, refusal: u32, _first: u32) {
+        lines::add_refusal(text, refusal, 0);
+    }
+
+    fn tell_read(
+        &self,
+        text: &mut Text,
+        _i: u32,
+        reader: Reader,
+        image: &[u8],
+        pair: Pair,
+    ) -> Option<Reader> {
+        telling::tell_read(text, reader, image, pair)
     }
 }
 
-// The group of pair i, counted from 0, where the input had all of its image or not.
-pub fn tell_group(
-    program: Program,
-    text: &mut [u8],
+pub struct Explainer;
+
+impl Program for Explainer {
+    ghost program = { programs.Explainer };
+
+    fn tell_start_refused(&self, text: &mut Text, refusal: u32, first: u32) {
+        explaining::tell_start_refused(text, refusal, first)
+    }
+
+    fn tell_read(
+        &self,
+        text: &mut Text,
+        i: u32,
+        reader: Reader,
+        image: &[u8],
+        pair: Pair,
+    ) -> Option<Reader> {
+        explaining::tell_read(text, i, reader, image, pair)
+    }
+}
+
+// The sections are whole: the first pair's number starts the run. Nothing is told of a start that is accepted.
+pub fn tell_start<P: Program>(
+    program: &P,
+    text: &mut Text,
+    size: u32,
+    bytes: &[u8],
+) -> Option<Reader>
+    requires { (length text.old + longest_text ≤ text_length) × (16 ≤ length bytes.now) }
+    ensures { Tells (start_of P.program size (pair_at bytes.now 0)) text.old text.new result }
+{
+    let first = sections::pair_at(bytes, 0);
+    match Reader::start(size, first.number) {
+        ReaderStart::Started(reader) => Some(reader),
+        ReaderStart::Refused(refusal) => {
+            program.tell_start_refused(text, refusal, first.number);
+            None
+        }
+    }
+}
+
+// The group of pair i, counted from 0, with its image, or without where the input was too short for it.
+pub fn tell_group<P: Program>(
+    program: &P,
+    text: &mut Text,
     reader: Reader,
-    whole: bool,
-    image: &[u8],
+    image: Option<&[u8]>,
     bytes: &[u8],
     i: usize,
-) -> Said
-    requires { (longest_text ≤ length text.old) × ((12 + 4 * (i + 1) ≤ length bytes.now) × (i ≤ most_groups)) }
-    ensures { Tells (group_of program i reader whole image.now (pair_at bytes.now i)) text.old text.new result }
+) -> Option<Reader>
+    requires { (length text.old + longest_text ≤ text_length) × ((12 + 4 * (i + 1) ≤ length bytes.now) × (i ≤ most_groups)) }
+    ensures { Tells (group_of P.program i reader (is_some image.entry) (image_of image.entry) (pair_at bytes.now i)) text.old text.new result }
 {
-    match program {
-        Program::Lister => telling::tell_group(text, reader, whole, image, bytes, i),
-        Program::Explainer => explaining::tell_group(text, reader, whole, image, bytes, i),
-    }
+    let Some(image) = image else {
+        telling::tell_bad(text);
+        return None;
+    };
+    let pair = sections::pair_at(bytes, i);
+    program.tell_read(text, i as u32 + 1, reader, image, pair)
 }

@@ -15,10 +15,10 @@ use Rattle.numbers.proofs.Tests.{both, and, passed}
 use Rattle.group.proofs.StateLaws.{Run, run_of_sound, sound_of_run, sum_small}
 use Rattle.reader.specs.declared.Reader.{Reader}
 use Rattle.entry.specs.declared.Cursor.{Cursor}
-use Rattle.entry.specs.declared.ScanEnd.{ScanEnd}
-use Rattle.entry.specs.declared.ScanEnd.TheVariants as scanned
-use Rattle.reader.specs.declared.ReaderStart.TheVariants as start
-use Rattle.reader.specs.declared.ReadAnswer.TheVariants as answer
+use Rattle.entry.specs.ScanEnd.{ScanEnd}
+use Rattle.entry.specs.ScanEnd as scanned
+use Rattle.reader.specs.ReaderStart as start
+use Rattle.reader.specs.ReadAnswer as answer
 use Rattle.reader.specs.Answer.{fresh, reader_start_call, sound, accepted_kept, length_kept, repeats, is_repeat, next_is, rows_fit, read_refusal, opening, closing, group_scan, answered, read_call}
 use Rattle.entry.specs.Bounds.{Cut, Bounded, Within}
 use Rattle.entry.proofs.Scans.{within}

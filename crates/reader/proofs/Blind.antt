@@ -10,7 +10,7 @@ use borrow.Author.Tests.{eqb-true}
 use Rattle.entry.specs.Table.{SameTable}
 use Rattle.entry.proofs.Tables.{same_entries}
 use Rattle.reader.specs.declared.Reader.{Reader}
-use Rattle.reader.specs.declared.ReadAnswer.{ReadAnswer}
+use Rattle.reader.specs.ReadAnswer.{ReadAnswer}
 use Rattle.reader.specs.Answer.{is_repeat, read_refusal, group_scan, read_call, group_rows, rows_left, Reads}
 use Rattle.reader.proofs.Accepted.{ready}
 

@@ -10,20 +10,20 @@ use borrow.Author.Tests.{eqb-false}
 use lib.Dec.{eqb}
 use lib.ListN.{length}
 use Rattle.group.specs.declared.Entry.{Entry}
-use Rattle.group.specs.declared.Meaning.{Meaning}
-use Rattle.group.specs.declared.Meaning.TheVariants.{Known, Unknown}
+use Rattle.group.specs.Flags.{Meaning}
+use Rattle.std.specs.Prelude.{Some, None}
 use Rattle.group.specs.Sizes.{entries_kept, information_length}
 use Rattle.group.specs.Flags.{meaning_of}
 use Rattle.group.specs.Entries.{entries_below}
 use Rattle.group.proofs.EntryLaws.{length_entries}
 use Rattle.entry.specs.declared.Cursor.{Cursor}
-use Rattle.entry.specs.declared.ScanEnd.{ScanEnd}
-use Rattle.entry.specs.declared.ScanEnd.TheVariants as scanned
+use Rattle.entry.specs.ScanEnd.{ScanEnd}
+use Rattle.entry.specs.ScanEnd as scanned
 use Rattle.counts.specs.Counts.{zero_part, above_one, too_long, differs}
 use Rattle.entry.specs.Rules.{b4_kept, follow_kept, or_else, room_kept, skip_kept, owed_kept, entry_fault}
 use Rattle.entry.specs.Scan.{after, is_last, scan}
 use Rattle.reader.specs.declared.Reader.{Reader}
-use Rattle.reader.specs.declared.ReadAnswer.TheVariants as answer
+use Rattle.reader.specs.ReadAnswer as answer
 use Rattle.reader.specs.Answer.{sound, length_kept, is_repeat, next_is, rows_fit, read_refusal, opening, group_scan, answered, read_call}
 use Rattle.reader.specs.Refused.{is_one_of, before_scan, at_entry, RefusedRead}
 
@@ -38,8 +38,8 @@ pick numbers false n rest e r = r
 
 entry_numbered : (size limit : ℕ) (last : Bool) (c : Cursor) (m : Meaning) (count : ℕ) → NoneOr at_entry (entry_fault size limit last c m count)
 unfolding entry_fault
-entry_numbered size limit last c Unknown count = inr refl
-entry_numbered size limit last c (Known k w) count =
+entry_numbered size limit last c None count = inr refl
+entry_numbered size limit last c (Some (k, w)) count =
     pick at_entry (not (b4_kept c.warned w)) 9 _ refl
     (pick at_entry (not (follow_kept c.stand k last)) 10 _ refl
     (or_else_lem

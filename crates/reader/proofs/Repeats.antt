@@ -11,7 +11,7 @@ use lib.Dec.{eqb}
 use lib.ListN.{length}
 use Rattle.numbers.proofs.Tests.{both, and}
 use Rattle.reader.specs.declared.Reader.{Reader}
-use Rattle.reader.specs.declared.ReadAnswer.TheVariants as answer
+use Rattle.reader.specs.ReadAnswer as answer
 use Rattle.reader.specs.Answer.{fresh, read_call}
 use Rattle.reader.proofs.Accepted.{accepted, repeat_is, is_repeat_lem, read_repeated, repeated}
 use Rattle.reader.proofs.Sound.{sound_again}

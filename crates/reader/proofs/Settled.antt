@@ -6,8 +6,8 @@ use Prim.Native.Nat.{ℕ, ◌/◌}
 use lib.ListN.{length}
 use Rattle.numbers.specs.Numbers.{in_bytes}
 use Rattle.reader.specs.declared.Reader.{Reader}
-use Rattle.reader.specs.declared.ReaderStart.{ReaderStart}
-use Rattle.reader.specs.declared.ReadAnswer.{ReadAnswer}
+use Rattle.reader.specs.ReaderStart.{ReaderStart}
+use Rattle.reader.specs.ReadAnswer.{ReadAnswer}
 use Rattle.reader.specs.Answer.{reader_start_call, read_call, group_rows, rows_left, as_numbers, Reads}
 
 pub start_settled : (size first : ℕ) (a b : ReaderStart) → a ≡ reader_start_call size first → b ≡ reader_start_call size first → a ≡ b

@@ -10,7 +10,7 @@ use Rattle.group.specs.declared.Phase.{Phase}
 use Rattle.group.specs.declared.Phase.TheVariants as phase
 use Rattle.group.proofs.StateLaws.{Run, sound_of_run}
 use Rattle.reader.specs.declared.Reader.{Reader}
-use Rattle.reader.specs.declared.ReadAnswer.TheVariants as answer
+use Rattle.reader.specs.ReadAnswer as answer
 use Rattle.entry.specs.Rules.{stand_at, phase_after}
 use Rattle.reader.specs.Answer.{sound, opening, group_scan, read_call}
 use Rattle.entry.proofs.Suits.{suits_scan}

@@ -9,22 +9,22 @@ use lib.Dec.{eqb}
 use lib.ListN.{length}
 use Rattle.group.specs.declared.Entry.{Entry}
 use Rattle.group.specs.declared.Kind.{Kind}
-use Rattle.group.specs.declared.Meaning.{Meaning}
-use Rattle.group.specs.declared.Meaning.TheVariants.{Known, Unknown}
+use Rattle.group.specs.Flags.{Meaning}
+use Rattle.std.specs.Prelude.{Some, None}
 use Rattle.group.specs.Sizes.{information_length, entry_length, entry_offset}
 use Rattle.group.specs.Flags.{meaning_of, b4_of}
 use Rattle.group.specs.Entries.{entry_at, entries_below}
 use Rattle.group.proofs.FlagLaws.{b4_of_meaning}
 use Rattle.entry.specs.declared.Cursor.{Cursor}
-use Rattle.entry.specs.declared.ScanEnd.TheVariants as scanned
+use Rattle.entry.specs.ScanEnd as scanned
 use Rattle.entry.specs.Rules.{b4_kept, entry_fault}
 use Rattle.entry.specs.Scan.{after, is_last, scan}
 use Rattle.entry.proofs.Faults.{kept, dropped, unknown_fault}
 use Rattle.entry.proofs.Scans.{went_on}
 use Rattle.scan.proofs.Turns.{turn}
 use Rattle.reader.specs.declared.Reader.{Reader}
-use Rattle.reader.specs.declared.ReadAnswer.{ReadAnswer}
-use Rattle.reader.specs.declared.ReadAnswer.TheVariants as answer
+use Rattle.reader.specs.ReadAnswer.{ReadAnswer}
+use Rattle.reader.specs.ReadAnswer as answer
 use Rattle.reader.specs.Answer.{opening, group_scan, read_refusal, read_call, state_of}
 use Rattle.reader.specs.Refused.{RefusedRead}
 use Rattle.reader.proofs.Accepted.{ready, accepted, repeated, read_scanned}
@@ -36,8 +36,8 @@ pub entry_keeps : (size limit : ℕ) (last : Bool) (c : Cursor) (flag count : �
 entry_keeps size limit last c flag count f = by (meaning_of flag) refl f
   where
     by : (m : Meaning) → meaning_of flag ≡ m → entry_fault size limit last c m count ≡ 0 → (b4_kept c.warned (b4_of flag) ≡ true) × ((after c m count).warned ≡ b4_of flag)
-    by Unknown e f = absurd (unknown_fault size limit last c count f)
-    by (Known k w) e f =
+    by None e f = absurd (unknown_fault size limit last c count f)
+    by (Some (k, w)) e f =
         let b = b4_of_meaning flag k w e in
         (rw b (kept size limit last c k w count f).b4, sym b)
 
@@ -103,7 +103,7 @@ warned_stays s group number n room h = by (read_call s group number n room) refl
 -- "9 now also meets the first entry of a later group": where the state has b4 set and nothing is refused before the scan, a first entry
 -- that has a kind and b4 clear.
 pub dropped_at_one : (s : Reader) (group : List ℕ) (number n room : ℕ) (k : Kind) → s.warned ≡ true → read_refusal s (length group) number n room ≡ 0
-    → meaning_of (entry_at group (s.size - information_length - entry_length)).flag ≡ Known k false → read_call s group number n room ≡ answer.Refused s 9 1
+    → meaning_of (entry_at group (s.size - information_length - entry_length)).flag ≡ Some (k, false) → read_call s group number n room ≡ answer.Refused s 9 1
 unfolding group_scan
 dropped_at_one s group number n room k h r m =
     let e = entry_at group (s.size - information_length - entry_length) in

@@ -24,10 +24,8 @@ fn phase_after(stand: Stand) -> Phase
 {
     match stand {
         Stand::Free => Phase::Free,
-        Stand::AfterPart => Phase::Inside,
-        Stand::Inside => Phase::Inside,
-        Stand::AfterLast => Phase::Owed,
-        Stand::Owed => Phase::Owed,
+        Stand::AfterPart | Stand::Inside => Phase::Inside,
+        Stand::AfterLast | Stand::Owed => Phase::Owed,
     }
 }
 
@@ -35,9 +33,8 @@ fn phase_after(stand: Stand) -> Phase
 pub fn opening(reader: Reader) -> Cursor
     ensures { result ≡ opening reader }
 {
-    let phase = reader.phase;
     Cursor {
-        stand: stand_at(phase),
+        stand: stand_at(reader.phase),
         warned: reader.warned,
         sum: reader.sum,
         reached: 0,
@@ -49,13 +46,12 @@ pub(crate) fn closing(reader: Reader, cursor: Cursor) -> Reader
     requires { reader.next ≤ last_number }
     ensures { result ≡ closing reader cursor }
 {
-    let stand = cursor.stand;
     Reader {
-        size: reader.size,
         next: reader.next + 1,
-        phase: phase_after(stand),
+        phase: phase_after(cursor.stand),
         warned: cursor.warned,
         accepted: true,
         sum: cursor.sum,
+        ..reader
     }
 }

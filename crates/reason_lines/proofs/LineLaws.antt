@@ -1,78 +1,43 @@
--- Laws of the lines of a refusal: where the words of each stand among all of them, and numbers that no kind has.
+-- Laws of the permitted kinds' names: of none, and of one more.
 -- Assumes nothing.
-use Prim.Native.Nat.{ℕ, zero, suc, ◌+◌, ◌-◌, ◌≤◌}
-use mathlib.Core.Path.{◌≡◌, refl}
-use mathlib.Core.Bool.{Bool, true, false, cond, ◌&&◌}
-use mathlib.Core.List.{List, [], ◌∷◌, ◌++◌}
-use native.Mathlib.Omega.{arith}
-use borrow.Author.Tests.{leb-true}
-use lib.Dec.{eqb, leb}
-use lib.ListN.{length, length-append, length-take, take, drop}
-use lib.Seq.{take-append_seam, drop-append-add}
-use Rattle.numbers.proofs.Tests.{both}
-use Rattle.words.specs.Words.{kind_name}
-use Rattle.reason_lines.specs.Lines.{wrongs, wrong_among, wrong, from_among, words_from}
+use borrow.Author.Tests.{ne_eqb}
+use Rattle.std.proofs.Common.{ℕ, zero, suc, ◌+◌, ◌<◌, ◌≡◌, refl, cond, List, [], ◌∷◌, ◌++◌, take, ap, sym, ◌∙◌, append_assoc, append-nil, arith}
+use Rattle.group.specs.declared.Kind.{Kind}
+use Rattle.group.specs.declared.Kind.TheVariants.{Total, Separator, Middle, Start, Last, Entire, Skip}
+use Rattle.group.specs.Flags.{kind_number, kinds}
+use Rattle.words.specs.Words.{ascii, kind_name}
+use Rattle.reasons.specs.declared.Reason.{Reason}
+use Rattle.reasons.specs.Truth.{is_permitted}
+use Rattle.reason_lines.specs.Lines.{names_among, permitted_names}
 
-pub no_name : (k : ℕ) → 8 ≤ k → [] ≡ kind_name k
-unfolding kind_name
-no_name zero h = absurd (omega arith)
-no_name (suc zero) h = absurd (omega arith)
-no_name (suc (suc zero)) h = absurd (omega arith)
-no_name (suc (suc (suc zero))) h = absurd (omega arith)
-no_name (suc (suc (suc (suc zero)))) h = absurd (omega arith)
-no_name (suc (suc (suc (suc (suc zero))))) h = absurd (omega arith)
-no_name (suc (suc (suc (suc (suc (suc zero)))))) h = absurd (omega arith)
-no_name (suc (suc (suc (suc (suc (suc (suc zero))))))) h = absurd (omega arith)
-no_name (suc (suc (suc (suc (suc (suc (suc (suc k)))))))) h = refl
+-- What is added of one kind.
+abbrev pub name_of : Reason → (kind : ℕ) → List ℕ
+name_of r kind = cond (is_permitted r kind) (ascii " " ++ kind_name kind) []
 
--- All words, one after the other.
-abbrev joined : List (ℕ × List ℕ) → List ℕ
-joined [] = []
-joined (w ∷ ws) = w.1 ++ joined ws
+-- The names of the first n kinds.
+unfoldable pub names_of : (n : ℕ) → Reason → List ℕ
+names_of n r = names_among (take n kinds) r
 
--- The words of a refusal stand among them where they begin, and are few.
-pub record Stand (refusal from : ℕ) (words : List ℕ) : Type 0 where
-  pub inside : from + length words ≤ 330
-  pub same : take (length words) (drop from (joined wrongs)) ≡ words
-  pub few : length words ≤ 40
+names_after : (ks : List Kind) (k : Kind) (r : Reason) → names_among (ks ++ (k ∷ [])) r ≡ names_among ks r ++ name_of r (kind_number k)
+names_after [] k r = append-nil _
+names_after (j ∷ ks) k r = ap (λ (l : List ℕ). name_of r (kind_number j) ++ l) (names_after ks k r) ∙ sym (append_assoc (name_of r (kind_number j)) (names_among ks r) (name_of r (kind_number k)))
 
-stand_in : (ws : List (ℕ × List ℕ)) (r : ℕ) → from_among ws r + length (wrong_among ws r) ≤ length (joined ws)
-stand_in [] r = omega arith
-stand_in (w ∷ ws) r = by (eqb r w.0) (stand_in ws r)
-  where
-    by : (b : Bool) → from_among ws r + length (wrong_among ws r) ≤ length (joined ws) → cond b 0 (length w.1 + from_among ws r) + length (cond b w.1 (wrong_among ws r)) ≤ length (w.1 ++ joined ws)
-    by true h = simp length-append (omega arith)
-    by false h = simp length-append (omega arith)
+pub no_names : (r : Reason) → names_of 0 r ≡ []
+unfolding names_of
+no_names r = refl
 
-same_in : (ws : List (ℕ × List ℕ)) (r : ℕ) → take (length (wrong_among ws r)) (drop (from_among ws r) (joined ws)) ≡ wrong_among ws r
-same_in [] r = refl
-same_in (w ∷ ws) r = by (eqb r w.0) (same_in ws r)
-  where
-    by : (b : Bool) → take (length (wrong_among ws r)) (drop (from_among ws r) (joined ws)) ≡ wrong_among ws r → take (length (cond b w.1 (wrong_among ws r))) (drop (cond b 0 (length w.1 + from_among ws r)) (w.1 ++ joined ws)) ≡ cond b w.1 (wrong_among ws r)
-    by true h = take-append_seam w.1 (joined ws)
-    by false h = rw (drop-append-add w.1 (joined ws) (from_among ws r)) h
+pub one_name_more : (n : ℕ) (r : Reason) → n < 7 → names_of (n + 1) r ≡ names_of n r ++ name_of r (n + 1)
+unfolding names_of
+one_name_more zero r h = names_after (take 0 kinds) Total r
+one_name_more (suc zero) r h = names_after (take 1 kinds) Separator r
+one_name_more (suc (suc zero)) r h = names_after (take 2 kinds) Middle r
+one_name_more (suc (suc (suc zero))) r h = names_after (take 3 kinds) Start r
+one_name_more (suc (suc (suc (suc zero)))) r h = names_after (take 4 kinds) Last r
+one_name_more (suc (suc (suc (suc (suc zero))))) r h = names_after (take 5 kinds) Entire r
+one_name_more (suc (suc (suc (suc (suc (suc zero)))))) r h = names_after (take 6 kinds) Skip r
+one_name_more (suc (suc (suc (suc (suc (suc (suc n))))))) r h = absurd (omega (arith, h))
 
-abbrev all_few : List (ℕ × List ℕ) → Bool
-all_few [] = true
-all_few (w ∷ ws) = leb (length w.1) 40 && all_few ws
-
-few_in : (ws : List (ℕ × List ℕ)) (r : ℕ) → all_few ws ≡ true → length (wrong_among ws r) ≤ 40
-few_in [] r e = omega arith
-few_in (w ∷ ws) r e = by (eqb r w.0) (few_in ws r (both (leb (length w.1) 40) (all_few ws) e).1)
-  where
-    by : (b : Bool) → length (wrong_among ws r) ≤ 40 → length (cond b w.1 (wrong_among ws r)) ≤ 40
-    by true h = leb-true (length w.1) 40 (both (leb (length w.1) 40) (all_few ws) e).0
-    by false h = h
-
-pub stand : (r : ℕ) → Stand r (words_from r) (wrong r)
-unfolding wrong words_from
-stand r = record { inside = stand_in wrongs r; same = same_in wrongs r; few = few_in wrongs r refl }
-
--- So a part of any bytes from there on, of their length, is short, and of all words it is the refusal's.
-pub part_few : (all : List ℕ) (r from long : ℕ) → long ≡ length (wrong r) → length (take (from + long - from) (drop from all)) ≤ 40
-part_few all r from long l = simp length-take (omega (arith, l, (stand r).few))
-
-pub part_same : (all : List ℕ) (r from long : ℕ) → all ≡ joined wrongs → from ≡ words_from r → long ≡ length (wrong r) → take (from + long - from) (drop from all) ≡ wrong r
-part_same all r from long a f l =
-    let so : from + long - from ≡ long = omega arith in
-    rw (so, a, f, l) (stand r).same
+-- Where any kind is permitted, the names are those of all seven.
+pub all_names : (n : ℕ) (r : Reason) → n ≡ 7 → (r.kinds ≡ 0 → ⊥) → names_of n r ≡ permitted_names r
+unfolding names_of permitted_names
+all_names n r e h = rw (e, ne_eqb r.kinds 0 h) refl

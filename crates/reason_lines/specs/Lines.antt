@@ -1,14 +1,14 @@
 -- Change request 2026-07, the explaining tool "beside the lister": the two lines that it prints after a refusal, as ASCII codes. The words
 -- are written as they are printed.
 -- Assumes nothing.
-use Rattle.std.specs.Prelude.{ℕ, ◌+◌, List, [], ◌∷◌, ◌++◌, cond, eqb, leb, length}
+use Rattle.std.specs.Prelude.{ℕ, List, [], ◌∷◌, ◌++◌, cond, eqb, leb}
 use Rattle.group.specs.declared.Kind.{Kind}
 use Rattle.group.specs.Flags.{kind_number, kinds}
 use Rattle.words.specs.Words.{ascii, decimal, labelled, newline, kind_name}
 use Rattle.lines.specs.Text.{refusal_line}
 use Rattle.reasons.specs.declared.Reason.{Reason}
 use Rattle.reasons.specs.Truth.{is_permitted}
-use Rattle.explain.specs.declared.Explanation.{Explanation}
+use Rattle.explain.specs.Explanation.{Explanation}
 
 -- What is wrong, for each refusal that a run file can meet. 1, 4 and 7 it cannot: the program's own state is sound, its buffer is L bytes
 -- long, and it has room for the rows (`always_words`).
@@ -35,14 +35,6 @@ wrong_among (w ∷ ws) refusal = cond (eqb refusal w.0) w.1 (wrong_among ws refu
 
 unfoldable pub wrong : (refusal : ℕ) → List ℕ
 wrong refusal = wrong_among wrongs refusal
-
--- Serves a contract: where the words of a refusal begin among all of them, one after the other.
-abbrev pub from_among : List (ℕ × List ℕ) → (refusal : ℕ) → ℕ
-from_among [] refusal = 0
-from_among (w ∷ ws) refusal = cond (eqb refusal w.0) 0 (length w.1 + from_among ws refusal)
-
-unfoldable pub words_from : (refusal : ℕ) → ℕ
-words_from refusal = from_among wrongs refusal
 
 -- The entry's byte in its group, where there is an entry.
 unfoldable pub byte_of : Explanation → List ℕ

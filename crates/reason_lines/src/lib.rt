@@ -1,182 +1,141 @@
-// The lines of a refusal, added to a text one after the other. Each function answers where what it added ends, and has a `requires` for
-// the room that it needs at most.
+// The lines of a refusal, each added to the end of a text. Each function has a `requires` for the room that it needs at most.
 #![tactic(auto)]
 
-ghost use Rattle.std.specs.Prelude.{◌+◌, ◌≤◌, ◌≡◌, cond, [], ◌++◌, eqb, length};
-ghost use Rattle.words.specs.Added.{Added};
+ghost use Rattle.std.specs.Prelude.{◌+◌, ◌≤◌, ◌<◌, ◌≡◌, cond, [], ◌++◌, length};
+ghost use Rattle.words.specs.Added.{text_length, Added};
 ghost use Rattle.words.specs.Words.{ascii, kind_name};
-ghost use Rattle.reason_lines.specs.Lines.{wrong, words_from, byte_of, where_line, limits, permitted_names, found_words, found_line, refused_lines};
+ghost use Rattle.reasons.specs.Truth.{is_permitted};
+ghost use Rattle.reason_lines.specs.Lines.{wrong, byte_of, where_line, limits, permitted_names, found_words, found_line, refused_lines};
 
 use explain::Explanation;
 use reasons::Reason;
-use words::{add, add_byte, add_kind, add_labelled, add_long};
-
-// Where the words of a refusal begin among all of them, one after the other, and how many bytes they have.
-fn words_from(refusal: u32) -> usize
-    ensures { result ≡ words_from refusal }
-{
-    match refusal {
-        3 => 0,
-        5 => 32,
-        6 => 58,
-        8 => 89,
-        9 => 111,
-        10 => 126,
-        12 => 250,
-        13 => 284,
-        19 => 154,
-        20 => 172,
-        21 => 191,
-        22 => 213,
-        23 => 307,
-        _ => 330,
-    }
-}
-
-fn words_length(refusal: u32) -> usize
-    ensures { result ≡ length (wrong refusal) }
-{
-    match refusal {
-        3 => 32,
-        5 => 26,
-        6 => 31,
-        8 => 22,
-        9 => 15,
-        10 => 28,
-        12 => 34,
-        13 => 23,
-        19 => 18,
-        20 => 19,
-        21 => 22,
-        22 => 37,
-        23 => 23,
-        _ => 0,
-    }
-}
+use words::Text;
 
 // What is wrong, in words.
-fn add_wrong(text: &mut [u8], at: usize, refusal: u32) -> usize
-    requires { at + 40 ≤ length text.old }
-    ensures { Added 40 text.old at (wrong refusal) text.new result }
+#[tactic(auto, unfolding(crate::specs::Lines::wrong))]
+fn wrong(refusal: u32) -> &'static [u8]
+    ensures words { result.now ≡ wrong refusal }
+    ensures few { length result.now ≤ 40 }
 {
-    let words =
-        *b"the first number is out of rangethe number is not the nextthe entry count is out of rangeno entry has this flagbit b4 went outthis kind may not stand herea part of no bytesa separator above 1the record is too longthe total is not the sum of its partsthe data would pass into the tablethe skip count is wrongthe total had room here";
-    let from = words_from(refusal);
-    let to = from + words_length(refusal);
-    add(text, at, &words[from..to])
+    match refusal {
+        3 => b"the first number is out of range",
+        5 => b"the number is not the next",
+        6 => b"the entry count is out of range",
+        8 => b"no entry has this flag",
+        9 => b"bit b4 went out",
+        10 => b"this kind may not stand here",
+        12 => b"the data would pass into the table",
+        13 => b"the skip count is wrong",
+        19 => b"a part of no bytes",
+        20 => b"a separator above 1",
+        21 => b"the record is too long",
+        22 => b"the total is not the sum of its parts",
+        23 => b"the total had room here",
+        _ => b"",
+    }
 }
 
 // The entry's byte, where there is an entry.
-fn add_byte_of(text: &mut [u8], at: usize, x: Explanation) -> usize
-    requires { at + 16 ≤ length text.old }
-    ensures { Added 16 text.old at (byte_of x) text.new result }
+#[tactic(auto, unfolding(crate::specs::Lines::byte_of))]
+fn add_byte_of(text: &mut Text, x: Explanation)
+    requires { length text.old + 16 ≤ text_length }
+    ensures { Added 16 text.old (byte_of x) text.new }
 {
-    if x.place == 0 {
-        return at;
+    if x.place != 0 {
+        text.add_labelled(b" byte", x.offset);
     }
-    add_labelled(text, at, b" byte", x.offset)
 }
 
 // Which group, which byte, and what is wrong.
-fn add_where(text: &mut [u8], at: usize, i: u32, x: Explanation) -> usize
-    requires { at + 75 ≤ length text.old }
-    ensures { Added 75 text.old at (where_line i x) text.new result }
+#[tactic(auto, unfolding(crate::specs::Lines::where_line))]
+fn add_where(text: &mut Text, i: u32, x: Explanation)
+    requires { length text.old + 75 ≤ text_length }
+    ensures { Added 75 text.old (where_line i x) text.new }
 {
-    let placed = add_labelled(text, at, b"group", i);
-    let reached = add_byte_of(text, placed, x);
-    let parted = add(text, reached, b": ");
-    let said = add_wrong(text, parted, x.refusal);
-    add_byte(text, said, b'\n')
+    text.add_labelled(b"group", i);
+    add_byte_of(text, x);
+    text.add(b": ");
+    text.add(wrong(x.refusal));
+    text.add_byte(b'\n');
 }
 
 // The least and the greatest allowed.
-fn add_limits(text: &mut [u8], at: usize, why: Reason) -> usize
-    requires { at + 54 ≤ length text.old }
-    ensures { Added 54 text.old at (limits why) text.new result }
+#[tactic(auto, unfolding(crate::specs::Lines::limits))]
+fn add_limits(text: &mut Text, why: Reason)
+    requires { length text.old + 54 ≤ text_length }
+    ensures { Added 54 text.old (limits why) text.new }
 {
-    if why.least > why.greatest {
-        return add(text, at, b", none allowed");
+    if why.least <= why.greatest {
+        text.add(b", allowed ");
+        text.add_number(why.least);
+        text.add(b" to ");
+        text.add_number(why.greatest);
+    } else {
+        text.add(b", none allowed");
     }
-    let from = add(text, at, b", allowed ");
-    let least = add_long(text, from, why.least);
-    let to = add(text, least, b" to ");
-    add_long(text, to, why.greatest)
 }
 
-// A kind's name behind a space, where its bit is 1.
-fn add_permitted(text: &mut [u8], at: usize, bit: u64, kind: u32) -> usize
-    requires { at + 10 ≤ length text.old }
-    ensures { Added 10 text.old at (cond (eqb bit 1) (ascii " " ++ kind_name kind) []) text.new result }
+// A kind's name behind a space, where it is permitted.
+fn add_permitted(text: &mut Text, why: Reason, kind: u64)
+    requires { (length text.old + 10 ≤ text_length) × ((1 ≤ kind) × (kind ≤ 64)) }
+    ensures { Added 10 text.old (cond (is_permitted why kind) (ascii " " ++ kind_name kind) []) text.new }
 {
-    if bit != 1 {
-        return at;
+    if (why.kinds >> (kind - 1)) % 2 == 1 {
+        text.add_byte(b' ');
+        text.add_kind(kind);
     }
-    let parted = add_byte(text, at, b' ');
-    add_kind(text, parted, kind)
 }
 
 // The permitted kinds by name.
-fn add_kinds(text: &mut [u8], at: usize, why: Reason) -> usize
-    requires { at + 70 ≤ length text.old }
-    ensures { Added 70 text.old at (permitted_names why) text.new result }
+#[tactic(auto, using(crate::proofs::LineLaws::no_names, crate::proofs::LineLaws::one_name_more, std::proofs::lemmas::Grind::common_steps), unfolding(crate::specs::Lines::permitted_names))]
+fn add_kinds(text: &mut Text, why: Reason)
+    requires { length text.old + 70 ≤ text_length }
+    ensures { Added 70 text.old (permitted_names why) text.new }
 {
-    let kinds = why.kinds;
-    if kinds == 0 {
-        return add(text, at, b" none");
+    if why.kinds == 0 {
+        text.add(b" none");
+        return;
     }
-    let total = add_permitted(text, at, kinds / 1 % 2, 1);
-    let separator = add_permitted(text, total, kinds / 2 % 2, 2);
-    let middle = add_permitted(text, separator, kinds / 4 % 2, 3);
-    let start = add_permitted(text, middle, kinds / 8 % 2, 4);
-    let last = add_permitted(text, start, kinds / 16 % 2, 5);
-    let entire = add_permitted(text, last, kinds / 32 % 2, 6);
-    add_permitted(text, entire, kinds / 64 % 2, 7)
-}
-
-// The name of a kind; of a number that is none's, nothing.
-fn add_name(text: &mut [u8], at: usize, kind: u64) -> usize
-    requires { at + 9 ≤ length text.old }
-    ensures { Added 9 text.old at (kind_name kind) text.new result }
-{
-    if kind > 7 {
-        return at;
+    for i in 0..7 {
+        add_permitted(text, why, i + 1);
     }
-    add_kind(text, at, kind as u32)
 }
 
 // What was found, and what is allowed.
-fn add_found_words(text: &mut [u8], at: usize, refusal: u32, why: Reason) -> usize
-    requires { at + 90 ≤ length text.old }
-    ensures { Added 90 text.old at (found_words refusal why) text.new result }
+#[tactic(auto, unfolding(crate::specs::Lines::found_words))]
+fn add_found_words(text: &mut Text, refusal: u32, why: Reason)
+    requires { length text.old + 90 ≤ text_length }
+    ensures { Added 90 text.old (found_words refusal why) text.new }
 {
     if refusal == 10 {
-        let named = add_name(text, at, why.found);
-        let said = add(text, named, b", permitted");
-        return add_kinds(text, said, why);
+        text.add_kind(why.found);
+        text.add(b", permitted");
+        add_kinds(text, why);
+        return;
     }
-    let found = add_long(text, at, why.found);
-    if refusal == 8 {
-        return found;
+    text.add_number(why.found);
+    if refusal != 8 {
+        add_limits(text, why);
     }
-    add_limits(text, found, why)
 }
 
-fn add_found(text: &mut [u8], at: usize, x: Explanation) -> usize
-    requires { at + 97 ≤ length text.old }
-    ensures { Added 97 text.old at (found_line x) text.new result }
+#[tactic(auto, unfolding(crate::specs::Lines::found_line))]
+fn add_found(text: &mut Text, x: Explanation)
+    requires { length text.old + 97 ≤ text_length }
+    ensures { Added 97 text.old (found_line x) text.new }
 {
-    let said = add(text, at, b"found ");
-    let why = x.why;
-    let found = add_found_words(text, said, x.refusal, why);
-    add_byte(text, found, b'\n')
+    text.add(b"found ");
+    add_found_words(text, x.refusal, x.why);
+    text.add_byte(b'\n');
 }
 
 // The lister's own line, and then the reason in two.
-pub fn add_refused(text: &mut [u8], at: usize, i: u32, x: Explanation) -> usize
-    requires { at + 205 ≤ length text.old }
-    ensures { Added 205 text.old at (refused_lines i x) text.new result }
+#[tactic(auto, unfolding(crate::specs::Lines::refused_lines))]
+pub fn add_refused(text: &mut Text, i: u32, x: Explanation)
+    requires { length text.old + 205 ≤ text_length }
+    ensures { Added 205 text.old (refused_lines i x) text.new }
 {
-    let refused = lines::add_refusal(text, at, x.refusal, x.place);
-    let placed = add_where(text, refused, i, x);
-    add_found(text, placed, x)
+    lines::add_refusal(text, x.refusal, x.place);
+    add_where(text, i, x);
+    add_found(text, x);
 }

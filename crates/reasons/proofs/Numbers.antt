@@ -13,8 +13,8 @@ use Rattle.numbers.proofs.Tests.{within, is_within}
 use Rattle.group.specs.declared.Entry.{Entry}
 use Rattle.group.specs.declared.Kind.{Kind}
 use Rattle.group.specs.declared.Kind.TheVariants.{Total, Separator, Middle, Start, Last, Entire, Skip}
-use Rattle.group.specs.declared.Meaning.{Meaning}
-use Rattle.group.specs.declared.Meaning.TheVariants.{Known, Unknown}
+use Rattle.group.specs.Flags.{Meaning}
+use Rattle.std.specs.Prelude.{Some, None}
 use Rattle.group.specs.Sizes.{longest_record, most_owing}
 use Rattle.group.specs.Flags.{kind_number, kinds, meaning_of}
 use Rattle.group.proofs.FlagLaws.{b4_of_meaning}
@@ -158,7 +158,7 @@ found_there total_in_time at e = refl
 
 -- "the rule is broken there by those numbers"
 module _ (at : Stop) (e : Entry) where
-  broken_known : (rule : Rule) (k : Kind) (w : Bool) → meaning_of e.flag ≡ Known k w → kind_keeps rule at k w e.count ≡ false → BrokenBy rule (reason_at rule at e)
+  broken_known : (rule : Rule) (k : Kind) (w : Bool) → meaning_of e.flag ≡ Some (k, w) → kind_keeps rule at k w e.count ≡ false → BrokenBy rule (reason_at rule at e)
   broken_known flag_known k w m h = absurd (true≢false h)
   broken_known b4_stays k w m h = rw (b4_of_meaning e.flag k w m, (b4_lost at.here.warned w h).1)
   broken_known kind_follows k w m h = rw m (permitted_is at.here.stand at.last (kind_number k) k ∙ h)
@@ -190,7 +190,7 @@ module _ (at : Stop) (e : Entry) where
   pub broken_by : (rule : Rule) → keeps rule at (meaning_of e.flag) e.count ≡ false → BrokenBy rule (reason_at rule at e)
   broken_by rule h = by (meaning_of e.flag) refl h
     where
-      unknown : (r : Rule) → meaning_of e.flag ≡ Unknown → keeps r at Unknown e.count ≡ false → BrokenBy r (reason_at r at e)
+      unknown : (r : Rule) → meaning_of e.flag ≡ None → keeps r at None e.count ≡ false → BrokenBy r (reason_at r at e)
       unknown flag_known m k = m
       unknown b4_stays m k = absurd (true≢false k)
       unknown kind_follows m k = absurd (true≢false k)
@@ -203,11 +203,11 @@ module _ (at : Stop) (e : Entry) where
       unknown total_in_time m k = absurd (true≢false k)
 
       by : (m : Meaning) → meaning_of e.flag ≡ m → keeps rule at m e.count ≡ false → BrokenBy rule (reason_at rule at e)
-      by Unknown m k = unknown rule m k
-      by (Known k w) m f = broken_known rule k w m f
+      by None m k = unknown rule m k
+      by (Some (k, w)) m f = broken_known rule k w m f
 
   -- What the numbers allow keeps the rule, and no other does.
-  allowed_known : (rule : Rule) (k : Kind) (w : Bool) → meaning_of e.flag ≡ Known k w → kind_keeps rule at k w e.count ≡ false → AllowedBy rule at (Known k w) (reason_at rule at e)
+  allowed_known : (rule : Rule) (k : Kind) (w : Bool) → meaning_of e.flag ≡ Some (k, w) → kind_keeps rule at k w e.count ≡ false → AllowedBy rule at (Some (k, w)) (reason_at rule at e)
   allowed_known flag_known k w m h = tt
   allowed_known b4_stays k w m h = λ b4. b4_is b4 ∙ rw (b4_lost at.here.warned w h).0
   allowed_known kind_follows k w m h = λ j. permitted_is at.here.stand at.last 0 j
@@ -258,7 +258,7 @@ module _ (at : Stop) (e : Entry) where
   pub allowed_by : (rule : Rule) → keeps rule at (meaning_of e.flag) e.count ≡ false → AllowedBy rule at (meaning_of e.flag) (reason_at rule at e)
   allowed_by rule h = by (meaning_of e.flag) refl h
     where
-      unknown : (r : Rule) → keeps r at Unknown e.count ≡ false → AllowedBy r at Unknown (reason_at r at e)
+      unknown : (r : Rule) → keeps r at None e.count ≡ false → AllowedBy r at None (reason_at r at e)
       unknown flag_known k = tt
       unknown b4_stays k = absurd (true≢false k)
       unknown kind_follows k = absurd (true≢false k)
@@ -271,5 +271,5 @@ module _ (at : Stop) (e : Entry) where
       unknown total_in_time k = absurd (true≢false k)
 
       by : (m : Meaning) → meaning_of e.flag ≡ m → keeps rule at m e.count ≡ false → AllowedBy rule at m (reason_at rule at e)
-      by Unknown m k = unknown rule k
-      by (Known k w) m f = allowed_known rule k w m f
+      by None m k = unknown rule k
+      by (Some (k, w)) m f = allowed_known rule k w m f

@@ -3,8 +3,8 @@
 use Prim.Native.Nat.{ℕ}
 use mathlib.Core.Path.{◌≡◌, refl}
 use mathlib.Core.Bool.{Bool, true, false, cond, not}
-use Rattle.group.specs.declared.Meaning.{Meaning}
-use Rattle.group.specs.declared.Meaning.TheVariants.{Known, Unknown}
+use Rattle.group.specs.Flags.{Meaning}
+use Rattle.std.specs.Prelude.{Some, None}
 use Rattle.counts.specs.Counts.{zero_part, above_one, too_long, differs}
 use Rattle.entry.specs.Rules.{b4_kept, follow_kept, room_kept, skip_kept, owed_kept, or_else, entry_fault}
 use Rattle.reasons.specs.Rules.{Stop, in_order, first_broken}
@@ -33,7 +33,7 @@ ordered true true false false false false true true true = refl
 
 pub in_order_lem : (at : Stop) (m : Meaning) (count : ℕ) → entry_fault at.size at.limit at.last at.here m count ≡ first_broken in_order at m count
 unfolding entry_fault first_broken
-in_order_lem at Unknown count = refl
-in_order_lem at (Known k warned) count =
+in_order_lem at None count = refl
+in_order_lem at (Some (k, warned)) count =
     ordered (b4_kept at.here.warned warned) (follow_kept at.here.stand k at.last) (zero_part k count) (above_one k count) (too_long k at.here.sum count)
     (differs k at.here.sum count) (room_kept k at.here.reached count at.limit) (skip_kept k at.here.reached count at.size) (owed_kept k at.here.stand count)

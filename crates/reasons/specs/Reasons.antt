@@ -5,8 +5,8 @@ use Rattle.std.specs.Prelude.{ℕ, ◌+◌, ◌*◌, ◌-◌, ◌/◌, ◌^◌, 
 use Rattle.group.specs.declared.Entry.{Entry}
 use Rattle.group.specs.declared.Kind.{Kind}
 use Rattle.group.specs.declared.Kind.TheVariants.{Total, Separator, Middle, Start, Last, Entire, Skip}
-use Rattle.group.specs.declared.Meaning.{Meaning}
-use Rattle.group.specs.declared.Meaning.TheVariants.{Known, Unknown}
+use Rattle.group.specs.Flags.{Meaning}
+use Rattle.std.specs.Prelude.{Some, None}
 use Rattle.group.specs.Sizes.{information_length, entry_length, longest_record, last_number, most_owing, entry_offset}
 use Rattle.group.specs.Flags.{kind_number, kinds, meaning_of, b4_of}
 use Rattle.entry.specs.declared.Cursor.{Cursor}
@@ -48,12 +48,12 @@ leaves Skip sum = 0
 
 -- A kind's number, and what the sum leaves it; of no kind, 0.
 abbrev pub kind_found : Meaning → ℕ
-kind_found Unknown = 0
-kind_found (Known k warned) = kind_number k
+kind_found None = 0
+kind_found (Some (k, warned)) = kind_number k
 
 abbrev pub leaves_it : Meaning → (sum : ℕ) → ℕ
-leaves_it Unknown sum = 0
-leaves_it (Known k warned) sum = leaves k sum
+leaves_it None sum = 0
+leaves_it (Some (k, warned)) sum = leaves k sum
 
 -- b4 as a number.
 abbrev pub b4_found : Bool → ℕ

@@ -3,8 +3,8 @@
 -- Assumes nothing.
 use Rattle.std.specs.Prelude.{ℕ, List, [], ◌∷◌, Bool, true, false, cond, not}
 use Rattle.group.specs.declared.Kind.{Kind}
-use Rattle.group.specs.declared.Meaning.{Meaning}
-use Rattle.group.specs.declared.Meaning.TheVariants.{Known, Unknown}
+use Rattle.group.specs.Flags.{Meaning}
+use Rattle.std.specs.Prelude.{Some, None}
 use Rattle.counts.specs.Counts.{zero_part, above_one, too_long, differs}
 use Rattle.entry.specs.declared.Cursor.{Cursor}
 use Rattle.entry.specs.Rules.{b4_kept, follow_kept, room_kept, skip_kept, owed_kept}
@@ -65,8 +65,8 @@ unknown_keeps total_in_time = true
 
 -- Whether an entry keeps a rule.
 abbrev pub keeps : Rule → Stop → Meaning → (count : ℕ) → Bool
-keeps rule at Unknown count = unknown_keeps rule
-keeps rule at (Known k warned) count = kind_keeps rule at k warned count
+keeps rule at None count = unknown_keeps rule
+keeps rule at (Some (k, warned)) count = kind_keeps rule at k warned count
 
 -- The first of some rules that an entry breaks: its number, 0 where it keeps them all.
 unfoldable pub first_broken : List Rule → Stop → Meaning → (count : ℕ) → ℕ

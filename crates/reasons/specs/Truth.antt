@@ -5,8 +5,8 @@ use Rattle.std.specs.Prelude.{ℕ, ◌+◌, ◌-◌, ◌/◌, ◌%◌, ◌^◌, 
 use Rattle.numbers.specs.Numbers.{between}
 use Rattle.group.specs.declared.Entry.{Entry}
 use Rattle.group.specs.declared.Kind.{Kind}
-use Rattle.group.specs.declared.Meaning.{Meaning}
-use Rattle.group.specs.declared.Meaning.TheVariants.{Unknown}
+use Rattle.group.specs.Flags.{Meaning}
+use Rattle.std.specs.Prelude.{None}
 use Rattle.group.specs.Sizes.{longest_record}
 use Rattle.group.specs.Flags.{kind_number, meaning_of, b4_of}
 use Rattle.entry.specs.Rules.{b4_kept, follow_kept}
@@ -38,7 +38,7 @@ found_at total_in_time at e = e.count
 
 -- "the rule is broken there by those numbers": the flag has no meaning, the kind is not permitted, the number is not allowed.
 abbrev pub BrokenBy : Rule → Reason → Type 0
-BrokenBy flag_known r = meaning_of r.found ≡ Unknown
+BrokenBy flag_known r = meaning_of r.found ≡ None
 BrokenBy b4_stays r = allowed r r.found ≡ false
 BrokenBy kind_follows r = is_permitted r r.found ≡ false
 BrokenBy part_not_empty r = allowed r r.found ≡ false

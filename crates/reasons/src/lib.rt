@@ -6,7 +6,7 @@ ghost use Rattle.std.specs.Prelude.{◌≡◌};
 ghost use Rattle.reasons.specs.Reasons.{reason, no_reason};
 
 // The numbers of a reason: what was found, the least and the greatest allowed, and the permitted kinds.
-#[derive(Clone, Copy)]
+#[derive(Clone, Copy, Debug, PartialEq, Eq)]
 pub struct Reason {
     pub found: u64,
     pub least: u64,

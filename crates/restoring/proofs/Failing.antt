@@ -1,36 +1,19 @@
 -- The first column that a test fails: found column by column, and what it says of those before it.
 -- Assumes nothing.
-use mathlib.Core.Path.{◌≡◌, refl, sym, ap, subst}
+use mathlib.Core.Path.{◌≡◌, refl, sym, subst, ◌∙◌}
 use mathlib.Core.Bool.{Bool, true, false, cond}
 use mathlib.Core.List.{List}
-use Prim.Native.Nat.{ℕ, zero, suc, ◌+◌, ◌-◌, ◌≤◌, ◌<◌}
+use Prim.Native.Nat.{ℕ, zero, suc, ◌+◌, ◌≤◌, ◌<◌}
 use native.Mathlib.Numerals.{add-one}
 use native.Mathlib.Decide.{ℕ_discrete}
 use native.Mathlib.Omega.{arith}
 use Rattle.column.specs.Column.{Column, column}
-use Rattle.restoring.specs.Rows.{first_failing}
+use Rattle.std.specs.Prelude.{Option, Some, None, not}
+use Rattle.std.specs.List.{find, range_with_len}
+use Rattle.std.specs.Option.{option_map}
+use Rattle.restoring.specs.Rows.{first_failing, IsFirstFailing}
 
 module _ (test : Column → Bool) (rows : List ℕ) (n : ℕ) where
-  -- How a loop over c finds it, with n − c columns to go.
-  more : (c : ℕ) → c < n → n - c ≡ suc (n - (c + 1))
-  more c h = omega arith
-
-  pub from_start : first_failing test rows n 0 (n - 0) ≡ first_failing test rows n 0 n
-  from_start = let e : n - 0 ≡ n = omega arith in ap (first_failing test rows n 0) e
-
-  pub fails_here : (c : ℕ) → c < n → test (column rows n c) ≡ false → first_failing test rows n c (n - c) ≡ c
-  unfolding first_failing
-  fails_here c h e = rw (more c h, e)
-
-  pub passes_here : (c : ℕ) → c < n → test (column rows n c) ≡ true
-      → first_failing test rows n (c + 1) (n - (c + 1)) ≡ first_failing test rows n c (n - c)
-  unfolding first_failing
-  passes_here c h e = rw (more c h, e, ← add-one c)
-
-  pub at_end : (c : ℕ) → n ≤ c → c ≤ n → first_failing test rows n c (n - c) ≡ n
-  unfolding first_failing
-  at_end c h l = let e : n - c ≡ 0 = omega arith in let f : c ≡ n = omega arith in rw (e, f)
-
   -- What it says: all before it pass, and it fails if it is a column.
   pub record First (c k r : ℕ) : Type 0 where
     pub low : c ≤ r
@@ -56,3 +39,29 @@ module _ (test : Column → Bool) (rows : List ℕ) (n : ℕ) where
           earlier : (d : ℕ) → c ≤ d → d < r → Dec (d ≡ c) → test (column rows n d) ≡ true
           earlier d l h (yes q) = subst (λ (x : ℕ). test (column rows n x) ≡ true) (sym q) e
           earlier d l h (no q) = f.before d (omega (arith, q)) h
+
+  -- What a search finds that looks at k columns from c on, one after the other.
+  Found : (c k : ℕ) → Option ℕ → Type 0
+  Found c k (Some d) = (d ≡ first_failing test rows n c k) × (d < c + k)
+  Found c k None = first_failing test rows n c k ≡ c + k
+
+  later : (c k : ℕ) → test (column rows n c) ≡ true → (r : Option ℕ) → Found (c + 1) k r → Found c (suc k) r
+  unfolding Found first_failing
+  later c k e (Some d) h = (rw (e, ← add-one c) h.0, omega arith)
+  later c k e None h = rw (e, ← add-one c) (h ∙ (omega arith))
+
+  found : (c k : ℕ) → Found c k (find (λ d. not (test (column rows n d))) (range_with_len c k))
+  unfolding Found first_failing
+  found c zero = omega arith
+  found c (suc k) = by (test (column rows n c)) refl (found (c + 1) k)
+    where
+      by : (b : Bool) → test (column rows n c) ≡ b → Found (c + 1) k (find (λ d. not (test (column rows n d))) (range_with_len (c + 1) k))
+          → Found c (suc k) (find (λ d. not (test (column rows n d))) (range_with_len c (suc k)))
+      by true e h = rw e (later c k e _ h)
+      by false e h = rw e (rw e refl, omega arith)
+
+  pub found_first : (r : Option ℕ) → option_map (λ (d : ℕ). d) r ≡ find (λ d. not (test (column rows n d))) (range_with_len 0 n)
+      → IsFirstFailing test rows n r
+  unfolding Found
+  found_first None e = let h : first_failing test rows n 0 n ≡ 0 + n = rw (← e) at (found 0 n) in omega arith
+  found_first (Some d) e = let h : (d ≡ first_failing test rows n 0 n) × (d < 0 + n) = rw (← e) at (found 0 n) in (h.0, omega arith)

@@ -40,6 +40,10 @@ within_turn group limit top (suc m) reached e next some is n w =
 pub row_kind_lem : (flag number : ℕ) → Meant flag → ((m : Meant flag) → number ≡ kind_number m.kind) → number ≡ row_kind (meaning_of flag)
 row_kind_lem flag number m is = rw m.is (is m)
 
+-- Rows that are stored as numbers.
+abbrev pub as_given : List ℕ → List ℕ
+as_given numbers = numbers
+
 -- `form` is how a list of row numbers is stored.
 pub record Filled (form : List ℕ → List ℕ) (group old : List ℕ) (size entries : ℕ) (rows : List ℕ) (top left reached i : ℕ) : Type 0 where
   pub long : length rows ≡ length old
@@ -61,6 +65,12 @@ module _ (form : List ℕ → List ℕ) (width : ℕ) (group old : List ℕ) (si
             ∙ ap (λ (vs : List ℕ). put rows i (form vs)) (sym (row_turn group top left reached e kind next some is first reaches))
             ∙ f.same;
       }
+
+-- The same, where the loop stands is told by other numbers.
+pub filled_at : {form : List ℕ → List ℕ} {group old : List ℕ} {size entries : ℕ} {rows : List ℕ} {top top' left left' reached i i' : ℕ}
+    → top ≡ top' → left ≡ left' → i ≡ i'
+    → Filled form group old size entries rows top left reached i → Filled form group old size entries rows top' left' reached i'
+filled_at e f g h = rw (← e, ← f, ← g) h
 
 -- The data reached before an entry is within the limit, and its flag has a meaning.
 pub filled_reach : {form : List ℕ → List ℕ} (group old : List ℕ) (size entries : ℕ) (rows : List ℕ) (top left reached i : ℕ) (e : Entry) → 0 < left → e ≡ entry_at group (top - 4)

@@ -2,15 +2,15 @@
 -- Assumes nothing.
 use Rattle.std.specs.Prelude.{ℕ, List, [], ◌∷◌}
 use Rattle.group.specs.declared.Entry.{Entry}
-use Rattle.group.specs.declared.Meaning.{Meaning}
-use Rattle.group.specs.declared.Meaning.TheVariants.{Known, Unknown}
+use Rattle.group.specs.Flags.{Meaning}
+use Rattle.std.specs.Prelude.{Some, None}
 use Rattle.group.specs.Flags.{kind_number, meaning_of}
 use Rattle.entry.specs.Scan.{reached_by}
 
 -- The first number of a row.
 abbrev pub row_kind : Meaning → ℕ
-row_kind Unknown = 0
-row_kind (Known k warned) = kind_number k
+row_kind None = 0
+row_kind (Some (k, warned)) = kind_number k
 
 -- "three 32-bit numbers per entry: kind, data offset reached before this entry, count"
 unfoldable pub rows_from : ℕ → List Entry → List ℕ

@@ -21,20 +21,13 @@ pub fn fill(group: &[u8], size: u32, entries: u32, rows: &mut [u32])
     requires entries_in_bounds { 3 * entries ≤ length rows.old }
     ensures { rows.new ≡ put rows.old 0 (rows_from 0 (entries_below group.now (size - information_length) entries)) }
 {
-    let mut top = (size - Group::INFORMATION_LENGTH) as usize;
-    let mut left = entries;
+    let top = (size - Group::INFORMATION_LENGTH) as usize;
     let mut reached: u32 = 0;
-    let mut i: usize = 0;
-    while 0 < left {
-        top = top - (Group::ENTRY_LENGTH as usize);
-        left = left - 1;
-        let entry = group::entries::entry_at(group, top);
-        let flag = entry.flag;
-        let count = entry.count;
-        rows[i] = group::flags::number_by_bits(flag) as u32;
-        rows[i + 1] = reached;
-        rows[i + 2] = count;
-        reached = rules::reached_by(flag, reached, count);
-        i = i + 3;
+    for k in 0..entries as usize {
+        let entry = group::entries::entry_at(group, top - (Group::ENTRY_LENGTH as usize) * (k + 1));
+        rows[3 * k] = group::flags::number_by_bits(entry.flag) as u32;
+        rows[3 * k + 1] = reached;
+        rows[3 * k + 2] = entry.count;
+        reached = rules::reached_by(entry.flag, reached, entry.count);
     }
 }

@@ -7,128 +7,94 @@
 pub mod input;
 pub mod output;
 
-ghost use Rattle.std.specs.Prelude.{◌+◌, ◌*◌, ◌≤◌, length};
-ghost use Rattle.sections.specs.Sections.{largest_size, most_groups, pair_at, InRange};
+ghost use Rattle.std.specs.Prelude.{◌<◌};
+ghost use Rattle.sections.specs.Sections.{pair_at};
 ghost use Rattle.runfile.specs.Follows.{Follows};
 
-use output::TEXT_LENGTH;
+use input::WholeSections;
 use programs::Program;
 use reader::Reader;
-use sections::Sections;
 use std::io::{Read, Write};
-use telling::Listed;
-
-// The longest sections: 16 bytes, and a pair for each of 1,024 groups.
-const SECTIONS_LENGTH: usize = 4112;
+use words::Text;
 
 // The sections are not what document 01 asks for.
 fn run_bad<W: Write>(stdout: &mut W) {
-    let mut text = [0u8; TEXT_LENGTH];
-    let said = telling::tell_bad(&mut text);
-    output::say(stdout, &text, said.length);
+    let mut text = Text::new();
+    telling::tell_bad(&mut text);
+    output::say(stdout, &text).ok();
 }
 
 // One group: its image is read, and what is told of it is written. Where that fails the run stops, so that a listing may be cut
 // off and never has a hole.
-fn run_group<R: Read, W: Write>(
-    program: Program,
+fn run_group<P: Program, R: Read, W: Write>(
+    program: &P,
     stdin: &mut R,
     stdout: &mut W,
     reader: Reader,
-    size: usize,
-    bytes: &[u8],
+    sections: &WholeSections,
     i: usize,
-) -> Listed
-    requires { (size ≤ largest_size) × ((12 + 4 * (i + 1) ≤ length bytes.now) × (i ≤ most_groups)) }
-    ensures { Follows program i reader size (pair_at bytes.now i) result }
+) -> Option<Reader>
+    requires { i < sections.now.groups }
+    ensures { Follows P.program i reader sections.now.size (pair_at sections.now.bytes i) result }
 {
-    let mut image = io::buffer();
-    let whole = input::read_whole(stdin, &mut image[..size]);
-    let mut text = [0u8; TEXT_LENGTH];
-    let said = programs::tell_group(program, &mut text, reader, whole, &image[..size], bytes, i);
-    if !output::say(stdout, &text, said.length) {
-        return Listed::Stopped;
-    }
-    let then = said.then;
+    let size = sections.size as usize;
+    let mut buffer = io::buffer();
+    let image = match input::read_whole(stdin, &mut buffer[..size]) {
+        Ok(()) => Some(&buffer[..size]),
+        Err(_) => None,
+    };
+    let mut text = Text::new();
+    let then = programs::tell_group(program, &mut text, reader, image, &sections.bytes, i);
+    output::say(stdout, &text).ok()?;
     then
 }
 
 // After the last group: extra bytes, or the end.
 fn run_end<R: Read, W: Write>(stdin: &mut R, stdout: &mut W, reader: Reader) {
     let mut more = [0u8; 1];
-    let extra = input::read_whole(stdin, &mut more);
-    let mut text = [0u8; TEXT_LENGTH];
-    let said = telling::tell_end(&mut text, reader, extra);
-    output::say(stdout, &text, said.length);
+    let extra = input::read_whole(stdin, &mut more).is_ok();
+    let mut text = Text::new();
+    telling::tell_end(&mut text, reader, extra);
+    output::say(stdout, &text).ok();
 }
 
 // The groups one by one, until one stops the run.
-fn run_groups<R: Read, W: Write>(
-    program: Program,
+fn run_groups<P: Program, R: Read, W: Write>(
+    program: &P,
     stdin: &mut R,
     stdout: &mut W,
     reader: Reader,
-    size: usize,
-    groups: usize,
-    bytes: &[u8],
-)
-    requires { (size ≤ largest_size) × ((12 + 4 * groups ≤ length bytes.now) × (groups ≤ most_groups)) }
-{
+    sections: &WholeSections,
+) -> Option<Reader> {
     let mut state = reader;
-    let mut i = 0;
-    while i < groups {
-        match run_group(program, stdin, stdout, state, size, bytes, i) {
-            Listed::On(next) => {
-                state = next;
-            }
-            Listed::Stopped => {
-                return;
-            }
-        }
-        i += 1;
+    for i in 0..sections.groups as usize {
+        state = run_group(program, stdin, stdout, state, sections, i)?;
     }
-    run_end(stdin, stdout, state);
+    Some(state)
 }
 
 // The run after its sections.
-fn run_images<R: Read, W: Write>(
-    program: Program,
+fn run_images<P: Program, R: Read, W: Write>(
+    program: &P,
     stdin: &mut R,
     stdout: &mut W,
-    size: u32,
-    groups: u32,
-    bytes: &[u8],
-)
-    requires { InRange size groups × (12 + 4 * groups ≤ length bytes.now) }
-{
-    let mut text = [0u8; TEXT_LENGTH];
-    let said = programs::tell_start(program, &mut text, size, bytes);
-    output::say(stdout, &text, said.length);
-    let then = said.then;
-    match then {
-        Listed::On(reader) => {
-            run_groups(
-                program,
-                stdin,
-                stdout,
-                reader,
-                size as usize,
-                groups as usize,
-                bytes,
-            )
-        }
-        Listed::Stopped => {}
+    sections: &WholeSections,
+) {
+    let mut text = Text::new();
+    let started = programs::tell_start(program, &mut text, sections.size, &sections.bytes);
+    output::say(stdout, &text).ok();
+    let Some(first) = started else {
+        return;
+    };
+    if let Some(last) = run_groups(program, stdin, stdout, first, sections) {
+        run_end(stdin, stdout, last);
     }
 }
 
 // The whole run.
-pub fn run<R: Read, W: Write>(program: Program, stdin: &mut R, stdout: &mut W) {
-    let mut bytes = [0u8; SECTIONS_LENGTH];
-    match input::read_sections(stdin, &mut bytes) {
-        Sections::Whole { size, groups } => run_images(
-            program, stdin, stdout, size, groups, &bytes,
-        ),
-        Sections::Next(_) => run_bad(stdout),
-        Sections::Bad => run_bad(stdout),
+pub fn run<P: Program, R: Read, W: Write>(program: &P, stdin: &mut R, stdout: &mut W) {
+    match input::read_sections(stdin) {
+        Some(sections) => run_images(program, stdin, stdout, &sections),
+        None => run_bad(stdout),
     }
 }

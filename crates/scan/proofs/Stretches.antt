@@ -16,23 +16,13 @@ use Rattle.group.specs.Entries.{entry_at}
 use Rattle.group.specs.Flags.{flag_of, meaning_of}
 use Rattle.group.proofs.FlagLaws.{meaning_of_flag}
 use Rattle.entry.specs.declared.Cursor.{Cursor}
-use Rattle.entry.specs.declared.Stand.{Stand}
-use Rattle.entry.specs.declared.Stand.TheVariants.{Free, AfterPart, Inside, AfterLast, Owed}
-use Rattle.entry.specs.declared.ScanEnd.TheVariants.{Reached}
+use Rattle.entry.specs.declared.Stand.TheVariants.{Free}
+use Rattle.entry.specs.ScanEnd.{Reached}
 use Rattle.entry.specs.Rules.{may_follow, may_owe, b4_kept, entry_fault}
 use Rattle.entry.specs.Scan.{after}
-use Rattle.entry.specs.Bounds.{stand_number}
 use Rattle.entry.proofs.Faults.{no_fault}
-use Rattle.scan.specs.Stretch.{scan_left, free_at, Single, separates, is_entire}
+use Rattle.scan.specs.Stretch.{scan_left, moved_to, free_at, Single, separates, is_entire}
 use Rattle.scan.proofs.Turns.{left_turn, none_left}
-
--- The stand whose number is 0.
-pub free_is : (stand : Stand) → stand_number stand ≡ 0 → stand ≡ Free
-free_is Free e = refl
-free_is AfterPart e = absurd (omega arith)
-free_is Inside e = absurd (omega arith)
-free_is AfterLast e = absurd (omega arith)
-free_is Owed e = absurd (omega arith)
 
 -- The b4 of the entry before it.
 same_b4 : (w : Bool) → b4_kept w w ≡ true
@@ -71,14 +61,15 @@ pub skip_after : (c : Cursor) (e : Entry) → e.flag ≡ flag_of Skip c.warned �
 skip_after c e f = rw (f, meaning_of_flag Skip c.warned)
 
 -- One separator or entire record of a stretch, and the skip that ends a group.
-pub single_turn : (group : List ℕ) (size n left : ℕ) (w : Bool) (sum reached bytes : ℕ) (e : Entry) → 2 ≤ left → left ≤ n
-    → e ≡ entry_at group (entry_offset size n + 4 * (left - 1)) → Single w e bytes → e.count ≤ longest_record → reached + bytes ≤ entry_offset size n
-    → scan_left size n group (left - 1) (free_at w 0 (reached + bytes)) ≡ scan_left size n group left (free_at w sum reached)
-single_turn group size n left w sum reached bytes e two most is s small fits =
+pub single_turn : (group : List ℕ) (size n left : ℕ) (c : Cursor) (sum reached bytes : ℕ) (e : Entry) → c.stand ≡ Free → 2 ≤ left → left ≤ n
+    → e ≡ entry_at group (entry_offset size n + 4 * (left - 1)) → Single c.warned e bytes → e.count ≤ longest_record → reached + bytes ≤ entry_offset size n
+    → scan_left size n group (left - 1) (moved_to c 0 (reached + bytes)) ≡ scan_left size n group left (moved_to c sum reached)
+single_turn group size n left c sum reached bytes e free two most is s small fits =
     let more : eqb (left - 1) 0 ≡ false = ne_eqb (left - 1) 0 (λ z. absurd (omega arith)) in
-    let kept = single_kept size (entry_offset size n) w sum reached bytes e s small fits in
-    ap (scan_left size n group (left - 1)) (sym (single_after w sum reached bytes e s))
-    ∙ sym (left_turn group size n left _ e 0 (omega arith) most is (rw more (sym kept)))
+    let kept = single_kept size (entry_offset size n) c.warned sum reached bytes e s small fits in
+    rw free (
+    ap (scan_left size n group (left - 1)) (sym (single_after c.warned sum reached bytes e s))
+    ∙ sym (left_turn group size n left _ e 0 (omega arith) most is (rw more (sym kept))))
 
 pub skip_turn : (group : List ℕ) (size n left : ℕ) (c : Cursor) (e : Entry) → left ≡ 1 → 1 ≤ n → e ≡ entry_at group (entry_offset size n)
     → e.flag ≡ flag_of Skip c.warned → e.count ≡ size - c.reached → c.reached ≤ entry_offset size n → may_follow c.stand Skip ≡ true

@@ -6,15 +6,16 @@ use Prim.Native.Nat.{ℕ, zero, suc, ◌+◌, ◌*◌, ◌-◌, ◌≤◌}
 use native.Mathlib.Nat.{not-suc-le-zero}
 use native.Mathlib.Numerals.{add-one}
 use native.Mathlib.Omega.{arith}
-use borrow.Author.Tests.{eq-eqb, ne_eqb}
 use lib.Dec.{eqb, eqb-suc-zero}
+use Rattle.answer.specs.declared.refusals.Refusal.{Refusal}
+use Rattle.answer.specs.Numbers.{refusal_number}
+use Rattle.answer.specs.NotZero.{refusal_not_zero}
 use Rattle.group.specs.declared.Entry.{Entry}
 use Rattle.group.specs.Sizes.{entry_offset}
 use Rattle.group.specs.Entries.{entry_at, entries_below}
-use Rattle.group.specs.Flags.{meaning_of}
+use Rattle.group.specs.Flags.{Meaning, meaning_of}
 use Rattle.entry.specs.declared.Cursor.{Cursor}
-use Rattle.entry.specs.declared.ScanEnd.{ScanEnd}
-use Rattle.entry.specs.declared.ScanEnd.TheVariants.{Reached, Refused}
+use Rattle.entry.specs.ScanEnd.{Reached, Refused}
 use Rattle.entry.specs.Rules.{entry_fault}
 use Rattle.entry.specs.Scan.{after, is_last, onward, scan}
 use Rattle.scan.specs.Stretch.{scan_left}
@@ -51,19 +52,29 @@ left_turn group size n left c e fault some most is found =
     rw (← next, ← below)
     (turn group size (entry_offset size n) (entry_offset size n + 4 * left) left (n + 1 - left) c e fault some (rw below is) found)
 
--- With all entries left it is the scan of the group, and with none it has reached its end.
-pub all_left : (group : List ℕ) (size n : ℕ) (c : Cursor) → 32 + 4 * n ≤ size → scan_left size n group n c ≡ scan size (entry_offset size n) (entries_below group (size - 32) n) 1 c
-all_left group size n c h =
-    let top : entry_offset size n + 4 * n ≡ size - 32 = omega arith in
-    let first : n + 1 - n ≡ 1 = omega arith in
-    rw (top, first)
-
+-- With no entry left it has reached its end.
 pub none_left : (group : List ℕ) (size n left : ℕ) (c : Cursor) → left ≡ 0 → Reached c ≡ scan_left size n group left c
 none_left group size n left c e = ended group size (entry_offset size n) (entry_offset size n + 4 * left) left (n + 1 - left) c e
 
--- What an entry's fault leads to.
-pub stops : (fault at place : ℕ) (c : Cursor) (rest : ScanEnd) → at ≡ place → (fault ≡ 0 → ⊥) → Refused fault at c ≡ onward fault place c rest
-stops fault at place c rest e h = rw (e, ne_eqb fault 0 h)
+-- The entry that stands below the top, and what its flag means.
+pub record At (group : List ℕ) (size n left : ℕ) (e : Entry) (m : Meaning) : Type 0 where
+  pub some : 1 ≤ left
+  pub most : left ≤ n
+  pub is : e ≡ entry_at group (entry_offset size n + 4 * (left - 1))
+  pub means : m ≡ meaning_of e.flag
 
-pub goes_on : (fault place : ℕ) (c : Cursor) (rest : ScanEnd) → fault ≡ 0 → rest ≡ onward fault place c rest
-goes_on fault place c rest h = rw (eq-eqb fault 0 h)
+-- Where it keeps its rules the scan goes on, and where it breaks one it stops.
+module _ (group : List ℕ) (size n left : ℕ) (c : Cursor) (e : Entry) (m : Meaning) (a : At group size n left e m) where
+  from : (fault : ℕ) → fault ≡ entry_fault size (entry_offset size n) (eqb (left - 1) 0) c m e.count
+      → scan_left size n group left c ≡ onward fault (n + 1 - left) c (scan_left size n group (left - 1) (after c m e.count))
+  from fault f = rw a.means (left_turn group size n left c e fault a.some a.most a.is (rw (← a.means) f))
+
+  pub passes : 0 ≡ entry_fault size (entry_offset size n) (eqb (left - 1) 0) c m e.count
+      → scan_left size n group (left - 1) (after c m e.count) ≡ scan_left size n group left c
+  passes f = sym (from 0 f)
+
+  pub stops : (r : Refusal) → refusal_number r ≡ entry_fault size (entry_offset size n) (eqb (left - 1) 0) c m e.count
+      → Refused (refusal_number r) (n - (left - 1)) c ≡ scan_left size n group left c
+  stops r f =
+      let place : n - (left - 1) ≡ n + 1 - left = omega (arith, a.some) in
+      rw (from (refusal_number r) f, refusal_not_zero r, place)

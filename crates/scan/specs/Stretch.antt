@@ -9,7 +9,7 @@ use Rattle.group.specs.Flags.{flag_of}
 use Rattle.group.specs.Entries.{entries_below}
 use Rattle.entry.specs.declared.Stand.TheVariants.{Free}
 use Rattle.entry.specs.declared.Cursor.{Cursor}
-use Rattle.entry.specs.declared.ScanEnd.{ScanEnd}
+use Rattle.entry.specs.ScanEnd.{ScanEnd}
 use Rattle.entry.specs.Scan.{scan}
 
 -- The scan from where `left` of a group's n entries are left.

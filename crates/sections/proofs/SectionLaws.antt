@@ -11,9 +11,9 @@ use borrow.Author.Tests.{lt-ltb, le-ltb}
 use Rattle.numbers.specs.Numbers.{number_at}
 use Rattle.numbers.proofs.NumberLaws.{four_at}
 use Rattle.sections.specs.declared.Sections.{Sections}
-use Rattle.sections.specs.declared.Sections.TheVariants.{Next, Bad, Whole}
+use Rattle.sections.specs.declared.Sections.TheVariants.{Next, Bad}
 use Rattle.sections.specs.declared.Pair.{Pair}
-use Rattle.sections.specs.Sections.{largest_size, most_groups, longest_sections, section, pair_at, InRange, Found, Within, Ahead}
+use Rattle.sections.specs.Sections.{largest_size, most_groups, section, pair_at}
 
 -- A section is short, out of range, or kept.
 pub short : (s : List ℕ) (to : ℕ) (b : Bool) (rest : Sections) → length s < to → Next to ≡ section s to b rest
@@ -27,16 +27,6 @@ spoilt s to b rest h e = rw (le-ltb (length s) to h, e)
 pub kept : (s : List ℕ) (to : ℕ) (b : Bool) (rest : Sections) → to ≤ length s → b ≡ true → rest ≡ section s to b rest
 unfolding section
 kept s to b rest h e = rw (le-ltb (length s) to h, e)
-
--- What the bounds say of a next section, and of whole ones.
-pub next_ahead : (have to : ℕ) (r : Sections) → Ahead have r → r ≡ Next to → (have < to) × (to ≤ longest_sections)
-next_ahead have to r h e = rw e at h
-
-pub whole_in_range : (have size groups : ℕ) (r : Sections) → Ahead have r → r ≡ Whole size groups → InRange size groups
-whole_in_range have size groups r h e = rw e at h
-
-pub within_found : (s : List ℕ) (size groups : ℕ) (r : Sections) → Within s r → r ≡ Whole size groups → Found size groups s
-within_found s size groups r h e = rw e at h
 
 -- Sizes in range multiply without wrapping.
 pub images_fit : (size groups : ℕ) → size ≤ largest_size → groups ≤ most_groups → groups * size < 4294967296

@@ -58,11 +58,6 @@ pub record Found (size groups : ℕ) (s : List ℕ) : Type 0 where
   pub whole : sections_of (take to s) ≡ Whole size groups
   pub range : InRange size groups
 
-abbrev pub Within : List ℕ → Sections → Type 0
-Within s (Next to) = Unit {0}
-Within s Bad = Unit {0}
-Within s (Whole size groups) = Found size groups s
-
 abbrev pub Ahead : ℕ → Sections → Type 0
 Ahead have (Next to) = (have < to) × (to ≤ longest_sections)
 Ahead have Bad = Unit {0}

@@ -16,7 +16,7 @@ const LARGEST_SIZE: u32 = 4096;
 const MOST_GROUPS: u32 = 1024;
 
 // What the bytes read so far are.
-#[derive(Clone, Copy)]
+#[derive(Clone, Copy, Debug, PartialEq, Eq)]
 pub enum Sections {
     // In range, and short of the section that ends at this byte.
     Next(usize),
@@ -27,13 +27,14 @@ pub enum Sections {
 }
 
 // One pair of the second section.
-#[derive(Clone, Copy)]
+#[derive(Clone, Copy, Debug, PartialEq, Eq)]
 pub struct Pair {
     pub number: u32,
     pub entries: u32,
 }
 
 // From the third count on, which stands after the pairs: "4-byte count G × L".
+#[tactic(auto, using(numbers::proofs::Tests::tests, crate::proofs::SectionLaws::images_fit), unfolding(crate::specs::Sections::section, crate::specs::Sections::images_section))]
 fn images_section(bytes: &[u8], size: u32, groups: u32) -> Sections
     requires { InRange size groups }
     ensures { (result ≡ images_section bytes.now size groups) × Ahead (length bytes.now) result }
@@ -49,6 +50,7 @@ fn images_section(bytes: &[u8], size: u32, groups: u32) -> Sections
 }
 
 // From the second count on: "4-byte count G (1 to 1,024)".
+#[tactic(auto, using(numbers::proofs::Tests::tests, crate::proofs::SectionLaws::images_fit), unfolding(crate::specs::Sections::section, crate::specs::Sections::groups_section))]
 fn groups_section(bytes: &[u8], size: u32) -> Sections
     requires { between least_size size largest_size ≡ true }
     ensures { (result ≡ groups_section bytes.now size) × Ahead (length bytes.now) result }
@@ -64,6 +66,7 @@ fn groups_section(bytes: &[u8], size: u32) -> Sections
 }
 
 // From L on: "4-byte L (64 to 4,096)".
+#[tactic(auto, using(numbers::proofs::Tests::tests, crate::proofs::SectionLaws::images_fit), unfolding(crate::specs::Sections::section, crate::specs::Sections::size_section))]
 fn size_section(bytes: &[u8]) -> Sections
     ensures { (result ≡ size_section bytes.now) × Ahead (length bytes.now) result }
 {
@@ -78,6 +81,7 @@ fn size_section(bytes: &[u8]) -> Sections
 }
 
 // From the first count on: "4-byte count 1".
+#[tactic(auto, using(numbers::proofs::Tests::tests), unfolding(crate::specs::Sections::section, crate::specs::Sections::sections_of))]
 pub fn sections_of(bytes: &[u8]) -> Sections
     ensures { (result ≡ sections_of bytes.now) × Ahead (length bytes.now) result }
 {
@@ -91,6 +95,7 @@ pub fn sections_of(bytes: &[u8]) -> Sections
 }
 
 // The pair of group i, counted from 0: its four bytes are loaded as one number.
+#[tactic(auto, using(crate::proofs::SectionLaws::pair_halved))]
 pub fn pair_at(bytes: &[u8], i: usize) -> Pair
     requires { 12 + 4 * (i + 1) ≤ length bytes.now }
     ensures { result ≡ pair_at bytes.now i }

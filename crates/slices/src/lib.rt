@@ -4,10 +4,11 @@
 
 ghost use Rattle.std.specs.Prelude.{◌≡◌, [], ◌∷◌, length};
 ghost use Rattle.numbers.specs.Numbers.{in_bytes};
-ghost use Rattle.answer.specs.Refusals.{told_of};
+ghost use Rattle.answer.specs.Results.{told_of};
 ghost use Rattle.slices.specs.Call.{answer_length, lengths_kept, Tells};
 
-use answer::Told;
+use answer::refusals::Numbered;
+use answer::{Outcome, Told};
 
 // The length of an answer slice, in bytes.
 pub const ANSWER_LENGTH: usize = 24;
@@ -42,27 +43,22 @@ fn put_answer(
 }
 
 // What a call tells, into its answer slice. Answers what the call returns.
-pub fn tell(answer: &mut [u8], told: Told) -> u32
+pub fn tell<R: Numbered>(answer: &mut [u8], told: Told<R>) -> u32
     requires { length answer.old ≡ answer_length }
-    ensures { Tells (told_of told) result answer.new }
+    ensures { Tells (told_of R.number told) result answer.new }
 {
-    match told {
-        Ok(told) => {
-            put_answer(
-                answer,
-                0,
-                0,
-                told.outcome,
-                told.number,
-                told.entries,
-                told.taken,
-            );
-            0
-        }
-        Err(refused) => {
-            let refusal = u32::from(refused.refusal);
-            put_answer(answer, refusal, refused.place, 0, 0, 0, 0);
-            refusal
-        }
-    }
+    let (refusal, place, outcome) = match told {
+        Ok(outcome) => (0, 0, outcome),
+        Err(refused) => (refused.refusal.number(), refused.place, Outcome::default()),
+    };
+    put_answer(
+        answer,
+        refusal,
+        place,
+        outcome.outcome,
+        outcome.number,
+        outcome.entries,
+        outcome.taken,
+    );
+    refusal
 }

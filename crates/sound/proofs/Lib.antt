@@ -1,4 +1,3 @@
--- The exits of each chain, and what a sound state and an accepted call are known by: the laws that the crates above cite.
-pub mod Exits
+-- What a sound state and an accepted call are known by: the laws that the crates above cite.
 pub mod SoundLaws
 pub mod Accepted

@@ -1,210 +1,143 @@
-// When a writer's state is sound, and what each call refuses: the tests of document 01, in its order. Any state may come in;
-// a refusal is its number, and 0 is none.
+// When a writer's state is sound, and what each call refuses: the tests of document 01, in its order. Any state may come in.
 #![tactic(auto)]
 
 ghost use Rattle.std.specs.Prelude.{◌≡◌};
-ghost use Rattle.sound.specs.State.{is_free, is_inside, is_owed, is_empty, ends_empty};
+ghost use Rattle.answer.specs.Numbers.{refusal_number};
+ghost use Rattle.answer.specs.Results.{number_of};
+ghost use Rattle.sound.specs.State.{is_empty, ends_empty};
 ghost use Rattle.sound.specs.State.{room_kept, empty_kept, rest_kept, data_kept, spent_kept, writer_sound};
 ghost use Rattle.sound.specs.State.{record_refusal, separator_refusal, end_refusal};
 
+use answer::refusals::Refusal;
 use group::{Group, Phase};
 use laying::Writer;
-
-fn is_free(phase: Phase) -> bool
-    ensures { result ≡ is_free phase }
-{
-    match phase {
-        Phase::Free => true,
-        Phase::Inside => false,
-        Phase::Owed => false,
-    }
-}
-
-pub fn is_inside(phase: Phase) -> bool
-    ensures { result ≡ is_inside phase }
-{
-    match phase {
-        Phase::Free => false,
-        Phase::Inside => true,
-        Phase::Owed => false,
-    }
-}
-
-fn is_owed(phase: Phase) -> bool
-    ensures { result ≡ is_owed phase }
-{
-    match phase {
-        Phase::Free => false,
-        Phase::Inside => false,
-        Phase::Owed => true,
-    }
-}
 
 fn is_empty(w: Writer) -> bool
     ensures { result ≡ is_empty w }
 {
-    if w.filled != 0 {
-        return false;
-    }
-    w.entries == 0
+    w.filled == 0 && w.entries == 0
 }
 
 // The sum is taken in 64 bits: any number may come in.
+#[tactic(auto, unfolding(crate::specs::State::room_kept), using(numbers::proofs::Tests::tests))]
 fn room_kept(w: Writer) -> bool
     ensures { result ≡ room_kept w }
 {
-    let phase = w.phase;
-    if !is_free(phase) {
-        return true;
-    }
     let table = (Group::ENTRY_LENGTH as u64) * ((w.entries as u64) + 1);
-    (w.filled as u64) + (Group::INFORMATION_LENGTH as u64) + table <= w.size as u64
+    w.phase != Phase::Free
+        || (w.filled as u64) + (Group::INFORMATION_LENGTH as u64) + table <= w.size as u64
 }
 
+#[tactic(auto, unfolding(crate::specs::State::empty_kept), using(numbers::proofs::Tests::tests))]
 fn empty_kept(w: Writer) -> bool
     ensures { result ≡ empty_kept w }
 {
-    let phase = w.phase;
-    if is_free(phase) {
-        return true;
-    }
-    is_empty(w)
+    w.phase == Phase::Free || is_empty(w)
 }
 
+#[tactic(auto, unfolding(crate::specs::State::rest_kept), using(numbers::proofs::Tests::tests))]
 fn rest_kept(w: Writer) -> bool
     ensures { result ≡ rest_kept w }
 {
-    let phase = w.phase;
-    if !is_inside(phase) {
+    if w.phase != Phase::Inside {
         return w.rest == 0;
     }
-    if w.rest < 1 {
-        return false;
-    }
-    (w.sum as u64) + (w.rest as u64) <= Group::LONGEST_RECORD as u64
+    1 <= w.rest && (w.sum as u64) + (w.rest as u64) <= Group::LONGEST_RECORD as u64
 }
 
+#[tactic(auto, unfolding(crate::specs::State::data_kept), using(numbers::proofs::Tests::tests))]
 fn data_kept(w: Writer) -> bool
     ensures { result ≡ data_kept w }
 {
-    if 0 < w.filled {
-        return 0 < w.entries;
-    }
-    true
+    w.filled == 0 || 0 < w.entries
 }
 
+#[tactic(auto, unfolding(crate::specs::State::spent_kept), using(numbers::proofs::Tests::tests))]
 fn spent_kept(w: Writer) -> bool
     ensures { result ≡ spent_kept w }
 {
-    if w.next == Group::LAST_NUMBER + 1 {
-        return is_empty(w);
-    }
-    true
+    w.next != Group::LAST_NUMBER + 1 || is_empty(w)
 }
 
+#[tactic(auto, unfolding(crate::specs::State::writer_sound), using(numbers::proofs::Tests::tests))]
 fn is_sound(w: Writer) -> bool
     ensures { result ≡ writer_sound w }
 {
-    let phase = w.phase;
-    if !group::state::run_sound(w.size, w.next, phase, w.sum) {
-        return false;
-    }
-    if !room_kept(w) {
-        return false;
-    }
-    if !empty_kept(w) {
-        return false;
-    }
-    if !rest_kept(w) {
-        return false;
-    }
-    if !data_kept(w) {
-        return false;
-    }
-    spent_kept(w)
+    group::state::run_sound(w.size, w.next, w.phase, w.sum)
+        && room_kept(w)
+        && empty_kept(w)
+        && rest_kept(w)
+        && data_kept(w)
+        && spent_kept(w)
 }
 
-// The number of a record's refusal, 0 if it is accepted.
-pub fn record_refusal(w: Writer, len: usize, n: usize) -> u32
-    ensures { result ≡ record_refusal w len n }
+// What a record's call refuses.
+#[tactic(auto, unfolding(crate::specs::State::record_refusal), using(numbers::proofs::Tests::tests))]
+pub fn record_refusal(w: Writer, len: usize, n: usize) -> Result<(), Refusal>
+    ensures { number_of refusal_number result ≡ record_refusal w len n }
 {
     if !is_sound(w) {
-        return 1;
+        return Err(Refusal::State);
     }
     if len != w.size as usize {
-        return 4;
+        return Err(Refusal::Group);
     }
     if w.next > Group::LAST_NUMBER {
-        return 14;
+        return Err(Refusal::NoNumber);
     }
-    if n < 1 {
-        return 15;
+    if n < 1 || n > Group::LONGEST_RECORD as usize {
+        return Err(Refusal::RecordLength);
     }
-    if n > Group::LONGEST_RECORD as usize {
-        return 15;
+    if w.phase == Phase::Inside && n != w.rest as usize {
+        return Err(Refusal::Rest);
     }
-    let phase = w.phase;
-    if !is_inside(phase) {
-        return 0;
-    }
-    if n != w.rest as usize {
-        return 16;
-    }
-    0
+    Ok(())
 }
 
-pub fn separator_refusal(w: Writer, len: usize, value: u32) -> u32
-    ensures { result ≡ separator_refusal w len value }
+#[tactic(auto, unfolding(crate::specs::State::separator_refusal), using(numbers::proofs::Tests::tests))]
+pub fn separator_refusal(w: Writer, len: usize, value: u32) -> Result<(), Refusal>
+    ensures { number_of refusal_number result ≡ separator_refusal w len value }
 {
     if !is_sound(w) {
-        return 1;
+        return Err(Refusal::State);
     }
     if len != w.size as usize {
-        return 4;
+        return Err(Refusal::Group);
     }
     if w.next > Group::LAST_NUMBER {
-        return 14;
+        return Err(Refusal::NoNumber);
     }
-    let phase = w.phase;
-    if is_inside(phase) {
-        return 17;
+    if w.phase == Phase::Inside {
+        return Err(Refusal::Open);
     }
     if value > 1 {
-        return 18;
+        return Err(Refusal::Separator);
     }
-    0
+    Ok(())
 }
 
-pub fn end_refusal(w: Writer, len: usize) -> u32
-    ensures { result ≡ end_refusal w len }
+#[tactic(auto, unfolding(crate::specs::State::end_refusal), using(numbers::proofs::Tests::tests))]
+pub fn end_refusal(w: Writer, len: usize) -> Result<(), Refusal>
+    ensures { number_of refusal_number result ≡ end_refusal w len }
 {
     if !is_sound(w) {
-        return 1;
+        return Err(Refusal::State);
     }
     if len != w.size as usize {
-        return 4;
+        return Err(Refusal::Group);
     }
-    let phase = w.phase;
-    if is_inside(phase) {
-        return 17;
+    if w.phase == Phase::Inside {
+        return Err(Refusal::Open);
     }
-    if !is_owed(phase) {
-        return 0;
+    if w.phase == Phase::Owed && w.next > Group::LAST_NUMBER {
+        return Err(Refusal::NoNumber);
     }
-    if w.next > Group::LAST_NUMBER {
-        return 14;
-    }
-    0
+    Ok(())
 }
 
 // Whether an end closes nothing.
 pub fn ends_empty(w: Writer) -> bool
     ensures { result ≡ ends_empty w }
 {
-    let phase = w.phase;
-    let entries = w.entries;
-    if is_owed(phase) {
-        return false;
-    }
-    entries == 0
+    w.phase != Phase::Owed && w.entries == 0
 }

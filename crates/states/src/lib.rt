@@ -12,7 +12,7 @@ use laying::Writer;
 use reader::Reader;
 
 // The four numbers that both states begin with.
-#[derive(Clone, Copy)]
+#[derive(Clone, Copy, Debug, PartialEq, Eq)]
 pub struct Run {
     pub size: u32,
     pub next: u32,
@@ -51,13 +51,7 @@ pub fn reader_meant(slice: &[u8]) -> bool
     requires { length slice.now ≡ reader_length }
     ensures { result ≡ reader_meant slice.now }
 {
-    if !phase_meant(slice) {
-        return false;
-    }
-    if numbers::number_at(slice, 16) > 1 {
-        return false;
-    }
-    numbers::number_at(slice, 20) <= 1
+    phase_meant(slice) && numbers::number_at(slice, 16) <= 1 && numbers::number_at(slice, 20) <= 1
 }
 
 // Whether the phase and b4 of a writer's slice, and a call's `warn`, are numbers that have a meaning.
@@ -65,13 +59,7 @@ pub fn writer_meant(slice: &[u8], warn: u32) -> bool
     requires { length slice.now ≡ writer_length }
     ensures { result ≡ (writer_meant slice.now && b4_meant warn) }
 {
-    if !phase_meant(slice) {
-        return false;
-    }
-    if numbers::number_at(slice, 24) > 1 {
-        return false;
-    }
-    warn <= 1
+    phase_meant(slice) && numbers::number_at(slice, 24) <= 1 && warn <= 1
 }
 
 // What a state's slice begins with, a reader's or a writer's.
@@ -93,11 +81,10 @@ pub fn reader_of(slice: &[u8]) -> Reader
     ensures { result ≡ reader_of slice.now }
 {
     let run = run_of(slice);
-    let phase = run.phase;
     Reader {
         size: run.size,
         next: run.next,
-        phase,
+        phase: run.phase,
         warned: numbers::number_at(slice, 16) == 1,
         accepted: numbers::number_at(slice, 20) == 1,
         sum: run.sum,

@@ -8,25 +8,8 @@ ghost use Rattle.numbers.specs.Numbers.{bytes_of, in_bytes};
 ghost use Rattle.states.specs.States.{reader_length, writer_length, phase_number, b4_number, reader_bytes, writer_bytes};
 ghost use Rattle.storing.specs.ForContracts.{Follows};
 
-use group::Phase;
 use laying::Writer;
 use reader::Reader;
-
-fn phase_number(phase: Phase) -> u32
-    ensures { result ≡ phase_number phase }
-{
-    match phase {
-        Phase::Free => 0,
-        Phase::Inside => 1,
-        Phase::Owed => 2,
-    }
-}
-
-fn b4_number(warned: bool) -> u32
-    ensures { result ≡ b4_number warned }
-{
-    if warned { 1 } else { 0 }
-}
 
 // A number from index `at` on. One that stands there already is not stored again: the test keeps its four byte stores apart
 // from the next number's, so that they become one, and the next call's load does not wait for them.
@@ -46,14 +29,11 @@ pub fn put_next(slice: &mut [u8], r: Reader)
     requires { (length slice.old ≡ reader_length) × Follows slice.old r }
     ensures { slice.new ≡ reader_bytes r }
 {
-    let phase = r.phase;
-    let phase = phase_number(phase);
-    let b4 = b4_number(r.warned);
     let next = numbers::number_at(slice, 4) + 1;
     numbers::put_number(slice, 4, next);
-    keep(slice, 8, phase);
+    keep(slice, 8, r.phase as u32);
     keep(slice, 12, r.sum);
-    keep(slice, 16, b4);
+    keep(slice, 16, u32::from(r.warned));
     numbers::put_number(slice, 20, 1);
 }
 
@@ -62,16 +42,13 @@ pub fn put_writer(slice: &mut [u8], w: Writer)
     requires { length slice.old ≡ writer_length }
     ensures { slice.new ≡ writer_bytes w }
 {
-    let phase = w.phase;
-    let phase = phase_number(phase);
-    let b4 = b4_number(w.warned);
     keep(slice, 0, w.size);
     keep(slice, 4, w.next);
-    keep(slice, 8, phase);
+    keep(slice, 8, w.phase as u32);
     keep(slice, 12, w.sum);
     keep(slice, 16, w.filled);
     keep(slice, 20, w.entries);
-    keep(slice, 24, b4);
+    keep(slice, 24, u32::from(w.warned));
     keep(slice, 28, w.rest);
 }
 

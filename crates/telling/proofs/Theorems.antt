@@ -1,31 +1,26 @@
 -- What the texts that are told come to: the bytes that the program writes, the room that never counts, and a repeat.
 -- Assumes nothing.
+use Rattle.std.specs.Prelude.{Option, Some}
 use Prim.Native.Nat.{ℕ, ◌+◌, ◌*◌, ◌≤◌}
 use mathlib.Core.Path.{◌≡◌, refl, sym, ap, ◌∙◌}
 use mathlib.Core.Bool.{Bool, true, false, cond, not}
-use mathlib.Core.List.{List}
+use mathlib.Core.List.{List, []}
 use native.Mathlib.Omega.{arith}
 use borrow.Author.Tests.{le-leb, leb-true}
 use lib.Dec.{eqb, leb}
-use lib.ListN.{length, take}
-use Rattle.numbers.proofs.Stores.{put_stands}
+use lib.ListN.{length}
 use Rattle.numbers.proofs.Tests.{both}
 use Rattle.group.specs.Sizes.{information_length, entry_length, entries_kept}
 use Rattle.reader.specs.declared.Reader.{Reader}
-use Rattle.reader.specs.declared.ReadAnswer.TheVariants as answer
+use Rattle.reader.specs.ReadAnswer as answer
 use Rattle.reader.specs.Answer.{sound, length_kept, is_repeat, next_is, rows_fit, read_refusal, answered, group_scan, read_call}
 use Rattle.sections.specs.Sections.{largest_size}
 use Rattle.lines.specs.Text.{repeat_line}
-use Rattle.telling.specs.declared.Listed.TheVariants.{On}
-use Rattle.telling.specs.declared.Said.{Said}
-use Rattle.telling.specs.Telling.{Step, row_numbers, read_step, longest_text, Tells}
+use Rattle.telling.specs.Telling.{Step, row_numbers, read_step, Tells}
 
--- What the program hands to its one write is the first bytes of the text, as many as are answered: they are the step's text.
-pub told_first : (step : Step) (old text : List ℕ) (said : Said) → Tells step old text said → longest_text ≤ length old → take said.length text ≡ step.text
-told_first step old text said t h =
-    let to : said.length ≡ length step.text = omega (arith, t.added.ends) in
-    ap (λ (k : ℕ). take k text) to ∙ ap (λ (x : List ℕ). take (length step.text) x) t.added.same
-    ∙ put_stands old 0 step.text (omega (arith, to, t.added.few))
+-- What the program hands to its one write is a text that was empty before the step: it is the step's text.
+pub told_first : (step : Step) (text : List ℕ) (then : Option Reader) → Tells step [] text then → text ≡ step.text
+told_first step text then t = t.added.0
 
 -- "4-byte L (64 to 4,096)": for groups of such a size the room for rows is enough, so that what is printed never hangs on it. A
 -- read that is lent any room for its 3n numbers answers the same.
@@ -54,6 +49,6 @@ room_enough s group number n room small fits =
 -- 2026-05: "state and rows stay, the contents aren't examined". Whatever a repeat's image holds and its entry count is, its step is
 -- the one line, and the run goes on with the state as given.
 pub repeat_told : (s : Reader) (image : List ℕ) (number entries : ℕ) → is_repeat s (length image) number ≡ true
-    → read_step s image number entries ≡ record { text = repeat_line number; then = On s }
+    → read_step s image number entries ≡ record { text = repeat_line number; then = Some s }
 unfolding read_step read_call
 repeat_told s image number entries e = rw e

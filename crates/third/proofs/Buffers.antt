@@ -12,8 +12,8 @@ use Rattle.numbers.specs.Numbers.{Bytes}
 use Rattle.column.specs.Column.{row_count, Column, column, Lawful}
 use Rattle.column.specs.Alike.{ColumnBytes, Same}
 use Rattle.restoring.specs.Rows.{each_column}
-use Rattle.third.specs.declared.ThirdAnswer.{ThirdAnswer}
-use Rattle.third.specs.declared.ThirdAnswer.TheVariants.{Accepted, Refused}
+use Rattle.third.specs.Answer.{ThirdAnswer}
+use Rattle.third.specs.Answer.{Accepted, Refused}
 use Rattle.third.specs.Answer.{Does, told}
 use Rattle.third.specs.Written.{Lent, Written}
 use Rattle.column.proofs.Restoring.{lawful_same}

@@ -6,7 +6,7 @@ use Prim.Native.Nat.{ℕ}
 use Rattle.answer.specs.Answer.{if_accepted}
 use Rattle.column.specs.Column.{Column}
 use Rattle.restoring.specs.Rows.{each_column}
-use Rattle.third.specs.declared.ThirdAnswer.{ThirdAnswer}
+use Rattle.third.specs.Answer.{ThirdAnswer}
 use Rattle.third.specs.Answer.{Does, Makes, Checks, RestoresOne, RestoresTwo, Mends, told}
 
 settled : (called : ThirdAnswer) (f : Column → Column) (n : ℕ) (old : List ℕ) (a b : ThirdAnswer) (rows rows' : List ℕ)

@@ -12,8 +12,8 @@ use Rattle.answer.specs.Answer.{if_accepted}
 use Rattle.column.specs.Column.{row_count, last_row, Column, column, Lawful, lawful, restored_one, restored_two, wrong_in, mended, mendable}
 use Rattle.column.specs.Alike.{ColumnBytes, Same, SameBut, SameButTwo, AtMostOne, Hopeless}
 use Rattle.restoring.specs.Rows.{each_column, first_failing}
-use Rattle.third.specs.declared.ThirdAnswer.{ThirdAnswer}
-use Rattle.third.specs.declared.ThirdAnswer.TheVariants.{Accepted, Refused}
+use Rattle.third.specs.Answer.{ThirdAnswer}
+use Rattle.third.specs.Answer.{Accepted, Refused}
 use Rattle.third.specs.Answer.{first_check_row, mend_call, Makes, Checks, RestoresOne, RestoresTwo, Mends, told}
 use Rattle.third.specs.Written.{Lent, Written, MendTold, CheckTold}
 use Rattle.column.proofs.Restoring.{restored_one_lem, restored_two_lem, lawful_two, bytes_two, two_else}

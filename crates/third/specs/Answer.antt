@@ -1,13 +1,30 @@
 -- Change request 2026-08: what each call answers, and what it leaves in the buffer, for every input.
 -- Assumes nothing.
-use Rattle.std.specs.Prelude.{◌≡◌, Bool, cond, not, ◌&&◌, List, ℕ, ◌*◌, eqb, leb, ltb, length}
+use Rattle.answer.specs.declared.refusals.ThirdRefusal.{ThirdRefusal}
+use Rattle.std.specs.Prelude.{◌≡◌, Bool, cond, not, ◌&&◌, List, ℕ, ◌*◌, eqb, leb, ltb, length, Result, Ok, Err}
 use Rattle.answer.specs.Answer.{Told}
 use Rattle.answer.specs.Answer as answer
 use Rattle.answer.specs.Answer.{if_accepted}
+use Rattle.answer.specs.Numbers.{third_number}
+use Rattle.answer.specs.declared.Refused as declared
 use Rattle.column.specs.Column.{row_count, last_row, Column, lawful, restored_one, restored_two, mended, mendable}
 use Rattle.restoring.specs.Rows.{each_column, first_failing}
-use Rattle.third.specs.declared.ThirdAnswer.{ThirdAnswer}
-use Rattle.third.specs.declared.ThirdAnswer.TheVariants.{Accepted, Refused}
+
+-- What the calls answer. The outcome is 1 where a check finds a column that breaks a rule, and 0 otherwise; the place is the column of
+-- refusal 43, and 0 otherwise.
+pub data ThirdAnswer : Type 0 where
+  Accepted : (outcome : ℕ) → ThirdAnswer
+  Refused : (refusal place : ℕ) → ThirdAnswer
+
+-- The answer by a result of the code: of a call that has no more to say than that it is accepted, and of a check, which says whether
+-- every column keeps both rules.
+abbrev pub done_answer : {A : Type 0} → Result A (declared.Refused ThirdRefusal) → ThirdAnswer
+done_answer (Ok x) = Accepted 0
+done_answer (Err e) = Refused (third_number e.refusal) e.place
+
+abbrev pub checked_answer : Result Bool (declared.Refused ThirdRefusal) → ThirdAnswer
+checked_answer (Ok kept) = Accepted (cond kept 0 1)
+checked_answer (Err e) = Refused (third_number e.refusal) e.place
 
 -- "44 of data and 2 of check bytes": the rows of check bytes are this one and the last.
 abbrev pub first_check_row : ℕ

@@ -4,8 +4,8 @@ use Rattle.std.specs.Prelude.{◌≡◌, ◌⊎◌, List, ℕ, ◌*◌, ◌<◌,
 use Rattle.numbers.specs.Numbers.{Bytes}
 use Rattle.column.specs.Column.{row_count, column, Lawful}
 use Rattle.column.specs.Alike.{Hopeless}
-use Rattle.third.specs.declared.ThirdAnswer.{ThirdAnswer}
-use Rattle.third.specs.declared.ThirdAnswer.TheVariants.{Accepted, Refused}
+use Rattle.third.specs.Answer.{ThirdAnswer}
+use Rattle.third.specs.Answer.{Accepted, Refused}
 
 -- 46 rows of bytes, of a row length that is not 0.
 pub record Lent (n : ℕ) (rows : List ℕ) : Type 0 where

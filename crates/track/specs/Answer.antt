@@ -5,7 +5,8 @@ use Rattle.answer.specs.Answer.{Told}
 use Rattle.answer.specs.Answer as answer
 use Rattle.answer.specs.Answer.{accepted, if_accepted}
 use Rattle.answer.specs.declared.Refused as refused
-use Rattle.answer.specs.Refusals.{refusal_number}
+use Rattle.answer.specs.declared.refusals.TrackRefusal.{TrackRefusal}
+use Rattle.answer.specs.Numbers.{track_number}
 use Rattle.header.specs.Header.{area_kept, pack_kept}
 use Rattle.items.specs.Items.{numbers_length, numbers_of}
 use Rattle.block.specs.Faults.{block_fault}
@@ -18,9 +19,9 @@ pub data TrackAnswer : Type 0 where
   Refused : (refusal place : ℕ) → TrackAnswer
 
 -- The answer that a result of the code is.
-abbrev pub answer_of : {A : Type 0} → Result A refused.Refused → TrackAnswer
+abbrev pub answer_of : {A : Type 0} → Result A (refused.Refused TrackRefusal) → TrackAnswer
 answer_of (Ok done) = Accepted
-answer_of (Err e) = Refused (refusal_number e.refusal) e.place
+answer_of (Err e) = Refused (track_number e.refusal) e.place
 
 -- 30: the buffers are of their lengths.
 unfoldable pub lengths_kept : (track packs items numbers : ℕ) → Bool

@@ -6,7 +6,8 @@ ghost use Rattle.track.specs.Blocks.{pack_in};
 ghost use Rattle.track.specs.Answer.{make_call, read_call, answer_of};
 
 use crate::Track;
-use answer::{Refusal, Refused};
+use answer::Refused;
+use answer::refusals::TrackRefusal;
 
 // A block's Pack ID among those lent.
 pub(crate) fn pack_in(packs: &[u8; Track::PACKS_LENGTH], block: u8) -> u8
@@ -21,16 +22,19 @@ pub(crate) fn pack_in(packs: &[u8; Track::PACKS_LENGTH], block: u8) -> u8
 }
 
 // What making answers where the slices are of their lengths.
-pub(crate) fn judge_making(area: u32, packs: &[u8; Track::PACKS_LENGTH]) -> Result<(), Refused>
+pub(crate) fn judge_making(
+    area: u32,
+    packs: &[u8; Track::PACKS_LENGTH],
+) -> Result<(), Refused<TrackRefusal>>
     ensures { answer_of result ≡ make_call area packs.now items_length track_length numbers_length }
 {
     if !header::area_kept(area) {
-        return Err(Refusal::Sw1.into());
+        return Err(TrackRefusal::Sw1.into());
     }
     for block in 0..Track::BLOCKS {
         if !header::pack_kept(block, pack_in(packs, block)) {
             return Err(Refused {
-                refusal: Refusal::Sw2,
+                refusal: TrackRefusal::Sw2,
                 place: u32::from(block),
             });
         }
@@ -39,7 +43,10 @@ pub(crate) fn judge_making(area: u32, packs: &[u8; Track::PACKS_LENGTH]) -> Resu
 }
 
 // What reading answers where the slices are of their lengths.
-pub(crate) fn judge_reading(area: u32, track: &[u8; Track::LENGTH]) -> Result<(), Refused>
+pub(crate) fn judge_reading(
+    area: u32,
+    track: &[u8; Track::LENGTH],
+) -> Result<(), Refused<TrackRefusal>>
     ensures { answer_of result ≡ read_call area track.now packs_length items_length numbers_length }
 {
     let (blocks, _) = track.as_chunks();

@@ -7,7 +7,8 @@ mod filling;
 
 ghost use Rattle.track.specs.Answer.{Makes, Reads, answer_of};
 
-use answer::{Refusal, Refused};
+use answer::Refused;
+use answer::refusals::TrackRefusal;
 
 // A track: its blocks, and the lengths of what is lent for it.
 #[derive(Clone, Copy, Debug, PartialEq, Eq)]
@@ -36,21 +37,21 @@ impl Track {
         items: &[u8],
         track: &mut [u8],
         numbers: &mut [u8],
-    ) -> Result<(), Refused>
+    ) -> Result<(), Refused<TrackRefusal>>
         ensures { Makes area frame packs.now items.now track.old numbers.old (answer_of result) track.new numbers.new }
     {
         let packs = packs
             .as_array::<{ Self::PACKS_LENGTH }>()
-            .ok_or(Refusal::Length)?;
+            .ok_or(TrackRefusal::Length)?;
         let items = items
             .as_array::<{ Self::ITEMS_LENGTH }>()
-            .ok_or(Refusal::Length)?;
+            .ok_or(TrackRefusal::Length)?;
         let track = track
             .as_mut_array::<{ Self::LENGTH }>()
-            .ok_or(Refusal::Length)?;
+            .ok_or(TrackRefusal::Length)?;
         let numbers = numbers
             .as_mut_array::<{ Self::NUMBERS_LENGTH }>()
-            .ok_or(Refusal::Length)?;
+            .ok_or(TrackRefusal::Length)?;
         blocks::judge_making(area, packs)?;
         filling::put_track(track, area, packs, items);
         items::put_numbers(numbers, area, frame);
@@ -65,19 +66,21 @@ impl Track {
         packs: &mut [u8],
         items: &mut [u8],
         numbers: &mut [u8],
-    ) -> Result<(), Refused>
+    ) -> Result<(), Refused<TrackRefusal>>
         ensures { Reads area frame track.now packs.old items.old numbers.old (answer_of result) packs.new items.new numbers.new }
     {
-        let track = track.as_array::<{ Self::LENGTH }>().ok_or(Refusal::Length)?;
+        let track = track
+            .as_array::<{ Self::LENGTH }>()
+            .ok_or(TrackRefusal::Length)?;
         let packs = packs
             .as_mut_array::<{ Self::PACKS_LENGTH }>()
-            .ok_or(Refusal::Length)?;
+            .ok_or(TrackRefusal::Length)?;
         let items = items
             .as_mut_array::<{ Self::ITEMS_LENGTH }>()
-            .ok_or(Refusal::Length)?;
+            .ok_or(TrackRefusal::Length)?;
         let numbers = numbers
             .as_mut_array::<{ Self::NUMBERS_LENGTH }>()
-            .ok_or(Refusal::Length)?;
+            .ok_or(TrackRefusal::Length)?;
         blocks::judge_reading(area, track)?;
         filling::put_packs(packs, track);
         filling::put_items(items, track);

@@ -11,10 +11,10 @@ use Rattle.numbers.proofs.InBytes.{length_numbers, numbers_put}
 use Rattle.numbers.specs.Numbers.{numbers_in, in_bytes}
 use Rattle.numbers.specs.Store.{put}
 use Rattle.reader.specs.declared.Reader.{Reader}
-use Rattle.reader.specs.declared.ReadAnswer.{ReadAnswer}
-use Rattle.reader.specs.declared.ReadAnswer.TheVariants as read
+use Rattle.reader.specs.ReadAnswer.{ReadAnswer}
+use Rattle.reader.specs.ReadAnswer as read
 use Rattle.reader.specs.Answer.{fresh, reader_start_call, sound, is_repeat, read_call, group_rows, rows_left}
-use Rattle.reader.specs.declared.ReaderStart.TheVariants as start
+use Rattle.reader.specs.ReaderStart as start
 use Rattle.reader.proofs.Accepted as own_read
 use Rattle.reader.proofs.Sound.{sound_again}
 use Rattle.layout.specs.Layout.{Image}

@@ -7,7 +7,7 @@ use mathlib.Core.Logic.{◌↔◌}
 use lib.ListN.{length}
 use Rattle.group.specs.State.{start_refusal}
 use Rattle.reader.specs.declared.Reader.{Reader}
-use Rattle.reader.specs.declared.ReaderStart.TheVariants as start
+use Rattle.reader.specs.ReaderStart as start
 use Rattle.reader.specs.Answer.{fresh, reader_start_call}
 use Rattle.layout.specs.Items.{Item, Each}
 use Rattle.layout.specs.Layout.{Image, Lays}

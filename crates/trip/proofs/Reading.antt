@@ -17,9 +17,9 @@ use Rattle.numbers.proofs.Tests.{within, and}
 use Rattle.group.proofs.StateLaws.{Run, started, sound_of_run}
 use Rattle.reader.proofs.GroupRows.{length_group_rows}
 use Rattle.reader.specs.declared.Reader.{Reader}
-use Rattle.reader.specs.declared.ReaderStart.TheVariants as start
-use Rattle.reader.specs.declared.ReadAnswer.{ReadAnswer}
-use Rattle.reader.specs.declared.ReadAnswer.TheVariants as read
+use Rattle.reader.specs.ReaderStart as start
+use Rattle.reader.specs.ReadAnswer.{ReadAnswer}
+use Rattle.reader.specs.ReadAnswer as read
 use Rattle.reader.specs.Answer.{sound, reader_start_call, read_call, group_rows, rows_left}
 use Rattle.reader.proofs.Sound.{sound_again}
 use Rattle.layout.specs.Layout.{Image}

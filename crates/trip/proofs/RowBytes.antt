@@ -10,7 +10,7 @@ use Rattle.numbers.specs.Store.{put}
 use Rattle.numbers.proofs.InBytes.{length_in_bytes, length_numbers, numbers_put}
 use Rattle.numbers.proofs.Stores.{drop_put}
 use Rattle.reader.specs.declared.Reader.{Reader}
-use Rattle.reader.specs.declared.ReadAnswer.TheVariants as answer
+use Rattle.reader.specs.ReadAnswer as answer
 use Rattle.reader.specs.Answer.{read_call, group_rows, as_numbers, Reads}
 use Rattle.reader.proofs.Accepted.{accepted}
 use Rattle.reader.proofs.GroupRows.{length_group_rows}

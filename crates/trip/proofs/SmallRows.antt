@@ -10,15 +10,15 @@ use Rattle.numbers.proofs.InBytes.{Smalls}
 use Rattle.group.specs.declared.Entry.{Entry}
 use Rattle.group.specs.declared.Kind.{Kind}
 use Rattle.group.specs.declared.Kind.TheVariants.{Total, Separator, Middle, Start, Last, Entire, Skip}
-use Rattle.group.specs.declared.Meaning.{Meaning}
-use Rattle.group.specs.declared.Meaning.TheVariants.{Known, Unknown}
+use Rattle.group.specs.Flags.{Meaning}
+use Rattle.std.specs.Prelude.{Some, None}
 use Rattle.group.specs.Sizes.{standard_size, information_length, longest_record}
 use Rattle.group.specs.Flags.{meaning_of}
 use Rattle.group.specs.Entries.{entries_below}
 use Rattle.reader.specs.declared.Reader.{Reader}
 use Rattle.entry.specs.declared.Cursor.{Cursor}
-use Rattle.entry.specs.declared.ScanEnd.TheVariants.{Reached}
-use Rattle.reader.specs.declared.ReadAnswer.TheVariants as answer
+use Rattle.entry.specs.ScanEnd.{Reached}
+use Rattle.reader.specs.ReadAnswer as answer
 use Rattle.entry.specs.Rules.{entry_fault, skip_kept}
 use Rattle.entry.specs.Scan.{after, is_last, scan, reached_by}
 use Rattle.rows.specs.Rows.{row_kind, rows_from}
@@ -30,14 +30,14 @@ use Rattle.entry.proofs.Scans.{went_on}
 use Rattle.reader.proofs.Accepted.{accepted, begins}
 
 kind_small : (m : Meaning) → row_kind m < 256 ^ 4
-kind_small Unknown = omega arith
-kind_small (Known Total w) = omega arith
-kind_small (Known Separator w) = omega arith
-kind_small (Known Middle w) = omega arith
-kind_small (Known Start w) = omega arith
-kind_small (Known Last w) = omega arith
-kind_small (Known Entire w) = omega arith
-kind_small (Known Skip w) = omega arith
+kind_small None = omega arith
+kind_small (Some (Total, w)) = omega arith
+kind_small (Some (Separator, w)) = omega arith
+kind_small (Some (Middle, w)) = omega arith
+kind_small (Some (Start, w)) = omega arith
+kind_small (Some (Last, w)) = omega arith
+kind_small (Some (Entire, w)) = omega arith
+kind_small (Some (Skip, w)) = omega arith
 
 -- A count that keeps its rule.
 counted : (k : Kind) (size reached sum count : ℕ) → size ≤ standard_size → sum ≤ longest_record → CountKept k sum count → skip_kept k reached count size ≡ true →
@@ -52,14 +52,14 @@ counted Skip size reached sum count h s r f = omega (arith, eqb-true count (size
 
 count_small : (size limit : ℕ) (last : Bool) (c : Cursor) (m : Meaning) (count : ℕ) → size ≤ standard_size → Bounded limit c → entry_fault size limit last c m count ≡ 0 →
     count < 256 ^ 4
-count_small size limit last c Unknown count h b e = absurd (unknown_fault size limit last c count e)
-count_small size limit last c (Known k w) count h b e =
+count_small size limit last c None count h b e = absurd (unknown_fault size limit last c count e)
+count_small size limit last c (Some (k, w)) count h b e =
     let r = kept size limit last c k w count e in
     omega (arith, counted k size c.reached c.sum count h b.sum r.counted r.skip)
 
 reached_is : (c : Cursor) (m : Meaning) (count : ℕ) → (after c m count).reached ≡ reached_by m c.reached count
-reached_is c Unknown count = refl
-reached_is c (Known k w) count = refl
+reached_is c None count = refl
+reached_is c (Some (k, w)) count = refl
 
 small_scan : (size limit : ℕ) (es : List Entry) (place : ℕ) (c d : Cursor) → size ≤ standard_size → limit ≤ size → Bounded limit c → scan size limit es place c ≡ Reached d →
     Smalls (rows_from c.reached es)

@@ -7,7 +7,7 @@ use mathlib.Core.Path.{◌≡◌, sym, ap, ◌∙◌, subst}
 use mathlib.Core.Logic.{◌↔◌, ◌⊎◌, inl, inr}
 use lib.ListN.{length, replicate, length-replicate}
 use Rattle.reader.specs.declared.Reader.{Reader}
-use Rattle.reader.specs.declared.ReaderStart.TheVariants as start
+use Rattle.reader.specs.ReaderStart as start
 use Rattle.reader.specs.Answer.{fresh, reader_start_call, read_call}
 use Rattle.reader.proofs.Accepted.{begun_at}
 use Rattle.laying.specs.Laying.{desk}

@@ -15,10 +15,10 @@ use Rattle.group.specs.declared.Phase.TheVariants.{Free, Inside, Owed}
 use Rattle.group.specs.Sizes.{longest_record}
 use Rattle.group.specs.State.{start_refusal}
 use Rattle.laying.specs.declared.Writer.{Writer}
-use Rattle.laying.specs.declared.WriterStart.{WriterStart}
-use Rattle.laying.specs.declared.WriterStart.TheVariants as start
-use Rattle.writer.specs.declared.WriteAnswer.{WriteAnswer}
-use Rattle.writer.specs.declared.WriteAnswer.TheVariants.{Finished, Closed, Refused}
+use Rattle.laying.specs.WriterStart.{WriterStart}
+use Rattle.laying.specs.WriterStart as start
+use Rattle.writer.specs.WriteAnswer.{WriteAnswer}
+use Rattle.writer.specs.WriteAnswer.{Finished, Closed, Refused}
 use Rattle.laying.specs.Laying.{Desk, desk, lay_entry, lay_data, lay_part, moved, warn_state, pay_owed, ready}
 use Rattle.writer.specs.Calls.{Done, done, finished, closed, or_refused, record_accepted, record_call, separator_accepted, separator_call, end_accepted, end_call, Call, call}
 use Rattle.writer.specs.Calls.Call.{a_record, a_separator, an_end}

@@ -5,7 +5,7 @@ use Rattle.std.specs.Prelude.{ℕ, ◌*◌, List, [], ◌∷◌, ◌++◌, true,
 use Rattle.numbers.specs.Numbers.{numbers_in, in_bytes, field}
 use Rattle.group.specs.declared.Phase.TheVariants.{Free}
 use Rattle.reader.specs.declared.Reader.{Reader}
-use Rattle.reader.specs.declared.ReaderStart.TheVariants.{Started}
+use Rattle.reader.specs.ReaderStart.{Started}
 use Rattle.reader.specs.Answer.{sound as reader_sound, reader_start_call}
 use Rattle.sound.specs.State.{writer_sound}
 use Rattle.laying.specs.Laying.{desk}

@@ -5,8 +5,8 @@ use Rattle.std.specs.Prelude.{ℕ, ◌*◌, ◌≤◌, List, [], ◌∷◌, ◌+
 use Rattle.group.specs.declared.Phase.{Phase}
 use Rattle.group.specs.Sizes.{information_length}
 use Rattle.numbers.specs.Numbers.{number_at, numbers_in, field}
-use Rattle.writer.specs.declared.WriteAnswer.{WriteAnswer}
-use Rattle.writer.specs.declared.WriteAnswer.TheVariants.{Finished, Closed}
+use Rattle.writer.specs.WriteAnswer.{WriteAnswer}
+use Rattle.writer.specs.WriteAnswer.{Finished, Closed}
 use Rattle.writer.specs.Calls.{Call}
 use Rattle.writer.specs.Calls.Call.{a_record, a_separator, an_end}
 use Rattle.layout.specs.Layout.{Image}

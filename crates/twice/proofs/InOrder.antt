@@ -10,11 +10,11 @@ use borrow.Author.Tests.{eqb-true, eqb-false}
 use Rattle.answer.specs.Answer.{refusal_told}
 use Rattle.group.specs.State.{start_refusal}
 use Rattle.reader.specs.declared.Reader.{Reader}
-use Rattle.reader.specs.declared.ReaderStart.TheVariants as reader_start_lem
+use Rattle.reader.specs.ReaderStart as reader_start_lem
 use Rattle.reader.specs.Answer as reading
 use Rattle.reader.specs.Answer.{fresh, reader_start_call, is_repeat, read_refusal}
 use Rattle.reader.proofs.Accepted.{is_repeat_lem, not_repeat, never_repeat, five_means, read_repeated, read_refused_lem}
-use Rattle.laying.specs.declared.WriterStart.TheVariants as writer_start_lem
+use Rattle.laying.specs.WriterStart as writer_start_lem
 use Rattle.laying.specs.Start.{fresh_state, writer_start_call}
 use Rattle.laying.specs.Laying.{Desk}
 use Rattle.sound.specs.State.{is_inside, is_owed, record_refusal, separator_refusal, end_refusal}

@@ -10,20 +10,20 @@ use lib.ListN.{length}
 use Rattle.group.specs.declared.Entry.{Entry}
 use Rattle.group.specs.declared.Kind.{Kind}
 use Rattle.group.specs.declared.Kind.TheVariants.{Last, Skip}
-use Rattle.group.specs.declared.Meaning.{Meaning}
-use Rattle.group.specs.declared.Meaning.TheVariants.{Known, Unknown}
+use Rattle.group.specs.Flags.{Meaning}
+use Rattle.std.specs.Prelude.{Some, None}
 use Rattle.group.specs.Sizes.{entry_offset}
 use Rattle.group.specs.Flags.{kind_number, meaning_of}
 use Rattle.group.specs.Entries.{entry_at, entries_below}
 use Rattle.group.proofs.FlagLaws.{kind_is_lem}
 use Rattle.entry.specs.declared.Cursor.{Cursor}
-use Rattle.entry.specs.declared.ScanEnd.{ScanEnd}
-use Rattle.entry.specs.declared.ScanEnd.TheVariants as scanned
+use Rattle.entry.specs.ScanEnd.{ScanEnd}
+use Rattle.entry.specs.ScanEnd as scanned
 use Rattle.entry.specs.Owing.{OwedEarly, last_then_skip}
 use Rattle.entry.proofs.Owing.{early_refused, early_only}
 use Rattle.rows.specs.Rows.{row_kind}
 use Rattle.reader.specs.declared.Reader.{Reader}
-use Rattle.reader.specs.declared.ReadAnswer.TheVariants as answer
+use Rattle.reader.specs.ReadAnswer as answer
 use Rattle.reader.specs.Answer.{is_repeat, read_refusal, opening, group_scan, answered, read_call}
 use Rattle.reader.specs.Refused.{RefusedRead}
 use Rattle.reader.proofs.Accepted.{accepted}
@@ -35,16 +35,16 @@ use Rattle.twice.proofs.Rows as rowed
 -- An entry of a kind's number has a flag that means this kind, and the other way round. No kind has the number 0.
 record Means (e : Entry) (k : Kind) : Type 0 where
   b4 : Bool
-  is : meaning_of e.flag ≡ Known k b4
+  is : meaning_of e.flag ≡ Some (k, b4)
 
 means : (e : Entry) (k : Kind) → kind_is e ≡ kind_number k → 1 ≤ kind_number k → Means e k
 means e k h some = by (meaning_of e.flag) refl (rowed.kind_is_lem e ∙ h)
   where
     by : (m : Meaning) → meaning_of e.flag ≡ m → row_kind m ≡ kind_number k → Means e k
-    by Unknown x y = absurd (omega arith)
-    by (Known j b) x y = record { b4 = b; is = rw (kind_is_lem j k y) at x }
+    by None x y = absurd (omega arith)
+    by (Some (j, b)) x y = record { b4 = b; is = rw (kind_is_lem j k y) at x }
 
-kind_of_lem : (e : Entry) (k : Kind) (b : Bool) → meaning_of e.flag ≡ Known k b → kind_is e ≡ kind_number k
+kind_of_lem : (e : Entry) (k : Kind) (b : Bool) → meaning_of e.flag ≡ Some (k, b) → kind_is e ≡ kind_number k
 kind_of_lem e k b h = sym (rowed.kind_is_lem e) ∙ ap row_kind h
 
 -- The two ways of saying it, by the bytes and by the entries, are one.

@@ -13,7 +13,7 @@ use Rattle.laying.specs.declared.Writer.{Writer}
 use Rattle.laying.specs.Laying.{Desk, desk, lay_entry, moved, warn_state, pay_owed}
 use Rattle.sound.specs.State.{is_free, is_inside}
 use Rattle.sound.proofs.SoundLaws.{Sound}
-use Rattle.writer.specs.declared.WriteAnswer.TheVariants.{Refused}
+use Rattle.writer.specs.WriteAnswer.{Refused}
 use Rattle.writer.specs.Calls.{Done, done, or_refused}
 
 -- It has its size, and is free where the writer was not inside a record.

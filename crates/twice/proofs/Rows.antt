@@ -12,15 +12,15 @@ use Rattle.numbers.proofs.Stores.{put_split, drop_put}
 use Rattle.group.specs.declared.Entry.{Entry}
 use Rattle.group.specs.declared.Kind.{Kind}
 use Rattle.group.specs.declared.Kind.TheVariants.{Total, Separator, Middle, Start, Last, Entire, Skip}
-use Rattle.group.specs.declared.Meaning.{Meaning}
-use Rattle.group.specs.declared.Meaning.TheVariants.{Known, Unknown}
+use Rattle.group.specs.Flags.{Meaning}
+use Rattle.std.specs.Prelude.{Some, None}
 use Rattle.group.specs.Flags.{kind_number, flag_of, kinds, meaning_among, meaning_of}
 use Rattle.group.specs.Entries.{entry_at, entries_below}
 use Rattle.group.proofs.EntryLaws.{length_entries}
 use Rattle.entry.specs.Scan.{reached_by}
 use Rattle.rows.proofs.Filling.{length_rows}
 use Rattle.reader.specs.declared.Reader.{Reader}
-use Rattle.reader.specs.declared.ReadAnswer.TheVariants as answer
+use Rattle.reader.specs.ReadAnswer as answer
 use Rattle.rows.specs.Rows.{rows_from, row_kind}
 use Rattle.reader.specs.Answer.{group_rows, as_numbers, Reads}
 use Rattle.reader.proofs.Accepted.{accepted}
@@ -36,7 +36,7 @@ kind_among_lem [] flag = refl
 kind_among_lem (k ∷ ks) flag = by (eqb flag (flag_of k false)) (eqb flag (flag_of k true)) (kind_among_lem ks flag)
   where
     by : (a b : Bool) → row_kind (meaning_among ks flag) ≡ kind_among (rows_of ks) flag →
-        row_kind (cond a (Known k false) (cond b (Known k true) (meaning_among ks flag))) ≡ cond a (kind_number k) (cond b (kind_number k) (kind_among (rows_of ks) flag))
+        row_kind (cond a (Some (k, false)) (cond b (Some (k, true)) (meaning_among ks flag))) ≡ cond a (kind_number k) (cond b (kind_number k) (kind_among (rows_of ks) flag))
     by true b e = refl
     by false true e = refl
     by false false e = e
@@ -47,14 +47,14 @@ kind_is_lem e = kind_among_lem kinds e.flag
 
 -- By its kind an entry moves the data on, or not.
 moved_by : (m : Meaning) (reached count : ℕ) → reached_by m reached count ≡ reached + data_of (row_kind m) count
-moved_by Unknown reached count = omega arith
-moved_by (Known Total b) reached count = omega arith
-moved_by (Known Separator b) reached count = omega arith
-moved_by (Known Middle b) reached count = refl
-moved_by (Known Start b) reached count = refl
-moved_by (Known Last b) reached count = refl
-moved_by (Known Entire b) reached count = refl
-moved_by (Known Skip b) reached count = omega arith
+moved_by None reached count = omega arith
+moved_by (Some (Total, b)) reached count = omega arith
+moved_by (Some (Separator, b)) reached count = omega arith
+moved_by (Some (Middle, b)) reached count = refl
+moved_by (Some (Start, b)) reached count = refl
+moved_by (Some (Last, b)) reached count = refl
+moved_by (Some (Entire, b)) reached count = refl
+moved_by (Some (Skip, b)) reached count = omega arith
 
 data_is_lem : (e : Entry) (reached : ℕ) → reached_by (meaning_of e.flag) reached e.count ≡ reached + data_is e
 data_is_lem e reached = moved_by (meaning_of e.flag) reached e.count ∙ ap (λ (k : ℕ). reached + data_of k e.count) (kind_is_lem e)

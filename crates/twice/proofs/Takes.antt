@@ -14,8 +14,8 @@ use Rattle.group.specs.declared.Phase.TheVariants.{Free, Inside, Owed}
 use Rattle.group.specs.Sizes.{information_length, longest_record, last_number, record_kept}
 use Rattle.numbers.proofs.Tests.{is_within}
 use Rattle.laying.specs.declared.Writer.{Writer}
-use Rattle.writer.specs.declared.WriteAnswer.{WriteAnswer}
-use Rattle.writer.specs.declared.WriteAnswer.TheVariants.{Finished, Closed, Refused}
+use Rattle.writer.specs.WriteAnswer.{WriteAnswer}
+use Rattle.writer.specs.WriteAnswer.{Finished, Closed, Refused}
 use Rattle.sound.specs.State.{writer_sound, is_inside, is_owed, length_kept, offer_kept, none_open_kept, end_remains_kept, record_refusal, separator_refusal, end_refusal}
 use Rattle.laying.specs.Laying.{Desk, desk, lay_entry, lay_data, lay_part, moved, lay_skip, zero_gap, shut, warn_state, pay_owed, ready}
 use Rattle.laying.specs.Start.{fresh_state}

@@ -7,7 +7,7 @@ use mathlib.Core.Path.{◌≡◌, ◌∙◌}
 use lib.ListN.{length}
 use Rattle.answer.specs.Answer.{refusal_told}
 use Rattle.reader.specs.declared.Reader.{Reader}
-use Rattle.reader.specs.declared.ReadAnswer.TheVariants as answer
+use Rattle.reader.specs.ReadAnswer as answer
 use Rattle.reader.specs.Answer as reading
 use Rattle.reader.specs.Answer.{reader_start_call, read_call, as_numbers, Reads}
 use Rattle.laying.specs.Start.{writer_start_call}

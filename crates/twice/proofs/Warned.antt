@@ -4,8 +4,8 @@ use mathlib.Core.Bool.{Bool, true, false, ◌||◌}
 use mathlib.Core.Path.{◌≡◌, refl, sym, ap, ◌∙◌}
 use Rattle.laying.specs.declared.Writer.{Writer}
 use Rattle.laying.specs.Laying.{Desk}
-use Rattle.writer.specs.declared.WriteAnswer.{WriteAnswer}
-use Rattle.writer.specs.declared.WriteAnswer.TheVariants.{Finished, Closed, Refused}
+use Rattle.writer.specs.WriteAnswer.{WriteAnswer}
+use Rattle.writer.specs.WriteAnswer.{Finished, Closed, Refused}
 use Rattle.writer.specs.Calls.{Call, call, state_of}
 use Rattle.writer.specs.Calls.Call.{a_record, a_separator, an_end}
 use Rattle.layout.proofs.Accounts.{as_given, as_came}

@@ -8,8 +8,8 @@ use Rattle.group.specs.declared.Phase.TheVariants.{Free, Inside, Owed}
 use Rattle.group.specs.Flags.{flag_of}
 use Rattle.group.specs.Entries.{entry, entry_bytes}
 use Rattle.laying.specs.Laying.{Desk}
-use Rattle.writer.specs.declared.WriteAnswer.{WriteAnswer}
-use Rattle.writer.specs.declared.WriteAnswer.TheVariants.{Finished, Closed, Refused}
+use Rattle.writer.specs.WriteAnswer.{WriteAnswer}
+use Rattle.writer.specs.WriteAnswer.{Finished, Closed, Refused}
 use Rattle.writer.specs.Calls.{Call}
 use Rattle.writer.specs.Calls.Call.{a_record, a_separator, an_end}
 

@@ -7,8 +7,8 @@ use Rattle.group.specs.Flags.{b4_of}
 use Rattle.group.specs.Entries.{table_bytes}
 use Rattle.laying.specs.declared.Writer.{Writer}
 use Rattle.laying.specs.Laying.{Desk}
-use Rattle.writer.specs.declared.WriteAnswer.{WriteAnswer}
-use Rattle.writer.specs.declared.WriteAnswer.TheVariants.{Finished, Closed, Refused}
+use Rattle.writer.specs.WriteAnswer.{WriteAnswer}
+use Rattle.writer.specs.WriteAnswer.{Finished, Closed, Refused}
 use Rattle.writer.specs.Calls.{Call}
 use Rattle.writer.specs.Calls.Call.{a_record, a_separator, an_end}
 use Rattle.layout.specs.Items.{Each}

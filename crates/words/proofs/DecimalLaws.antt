@@ -1,8 +1,8 @@
--- The digits that `io::decimal` puts are `decimal`'s, at most twenty for a number of 64 bits and ten for one of 32.
+-- The digits that `io::decimal` puts are `decimal`'s; a number of 64 bits has at most twenty, and one of 32 bits ten.
 -- Assumes nothing.
 use Prim.Native.Nat.{ℕ, zero, suc, ◌+◌, ◌-◌, ◌*◌, ◌/◌, ◌%◌, ◌^◌, ◌≤◌, ◌<◌}
 use mathlib.Core.Path.{◌≡◌, refl, sym, ◌∙◌}
-use mathlib.Core.Bool.{Bool, true, false}
+use mathlib.Core.Bool.{Bool, true, false, cond}
 use mathlib.Core.List.{[], ◌∷◌, ◌++◌}
 use native.Mathlib.Nat.{pow-succ', pow-le-pow_right, mod-lt, mod-eq_of_lt, one-le-pow}
 use native.Mathlib.Omega.{arith}
@@ -18,7 +18,7 @@ length_digits zero n = refl
 length_digits (suc k) n = simp length-append (omega (arith, length_digits k (n / 10)))
 
 -- A number below a power of ten has at most so many digits.
-pub at_most : (most n k : ℕ) → 1 ≤ most → n < 10 ^ most → IsDigitCount 10 1 n k → k ≤ most
+at_most : (most n k : ℕ) → 1 ≤ most → n < 10 ^ most → IsDigitCount 10 1 n k → k ≤ most
 at_most most n k one h f = by (ltb most k) refl
   where
     by : (b : Bool) → ltb most k ≡ b → k ≤ most
@@ -65,7 +65,29 @@ decimal_in_lem (suc most) (suc zero) n h f = one_digit n (omega (arith, f.1)) �
 decimal_in_lem (suc most) (suc (suc j)) n h f =
     rw (decimal_in_lem most (suc j) (n / 10) (omega arith) (tenth j n f), last_digit most n (more_digits j n f), digit (n % 10) (mod-lt n (omega arith)))
 
--- The fewest digits that hold a number of at most twenty are its decimal text.
-pub decimal_fewest : (n k : ℕ) → k ≤ 20 → IsDigitCount 10 1 n k → last_digits 10 k n ≡ decimal n
+-- The fewest digits that hold a number of 64 bits are its decimal text.
+pub decimal_fewest : (n k : ℕ) → n < 2 ^ 64 → IsDigitCount 10 1 n k → last_digits 10 k n ≡ decimal n
 unfolding decimal
-decimal_fewest n k h f = decimal_in_lem 20 k n h f
+decimal_fewest n k h f = decimal_in_lem 20 k n (at_most 20 n k (omega arith) (omega (arith, h)) f) f
+
+-- A number below a power of ten has so few digits.
+short : (most few n : ℕ) → n < 10 ^ suc few → length (decimal_in most n) ≤ suc few
+unfolding decimal_in
+short zero few n h = omega arith
+short (suc most) few n h = by (ltb n 10) refl few h (λ few h. short most few (n / 10) h)
+  where
+    by : (b : Bool) → ltb n 10 ≡ b → (few : ℕ) → n < 10 ^ suc few → ((few : ℕ) → n / 10 < 10 ^ suc few → length (decimal_in most (n / 10)) ≤ suc few)
+        → length (cond b ((48 + n) ∷ []) (decimal_in most (n / 10) ++ ((48 + n % 10) ∷ []))) ≤ suc few
+    by true e few h rest = omega arith
+    by false e zero h rest = absurd (omega (arith, ltb-false n 10 e, h))
+    by false e (suc few) h rest =
+        let fewer = rest few (omega (arith, pow-succ' 10 (suc few), h)) in
+        rw length-append (omega (arith, fewer))
+
+pub decimal_20 : (n : ℕ) → n < 2 ^ 64 → length (decimal n) ≤ 20
+unfolding decimal
+decimal_20 n h = short 20 19 n (omega (arith, h))
+
+pub decimal_10 : (n : ℕ) → n < 2 ^ 32 → length (decimal n) ≤ 10
+unfolding decimal
+decimal_10 n h = short 20 9 n (omega (arith, h))

@@ -1,5 +1,2 @@
--- The laws that the proofs of this crate share, and those above it: adding to a text, the digits of a number, where a kind's name
--- stands.
-pub mod AddedLaws
+-- The laws of a number's digits.
 pub mod DecimalLaws
-pub mod NameLaws

@@ -1,10 +1,11 @@
--- Serves contracts and proofs, and says nothing of the program: what adding to a text leaves.
+-- Serves contracts and proofs, and says nothing of the program: the room of a text, and what adding to one leaves.
 -- Assumes nothing.
-use Rattle.std.specs.Prelude.{ℕ, ◌+◌, ◌≤◌, ◌≡◌, List, length}
-use Rattle.numbers.specs.Store.{put}
+use Rattle.std.specs.Prelude.{ℕ, ◌+◌, ◌≤◌, ◌≡◌, List, ◌++◌, length}
 
--- `new`, of at most `most` bytes, was added to `old` at `at`, and ends at `to`. Every other byte is as it was.
-pub record Added (most : ℕ) (old : List ℕ) (at : ℕ) (new text : List ℕ) (to : ℕ) : Type 0 where
-  pub same : text ≡ put old at new
-  pub ends : to ≡ at + length new
-  pub few : to ≤ at + most
+-- The bytes that a text has room for.
+abbrev pub text_length : ℕ
+text_length = 32768
+
+-- `word`, of at most `most` bytes, was added to the end of `old`.
+abbrev pub Added : (most : ℕ) (old word new : List ℕ) → Type 0
+Added most old word new = (new ≡ old ++ word) × (length new ≤ length old + most)

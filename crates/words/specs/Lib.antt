@@ -1,5 +1,3 @@
--- What a reader of this crate must believe: how a number, a word and a kind's name read (Words). The other two serve contracts and
--- proofs.
+-- What a reader of this crate must believe: how a number, a word and a kind's name read (Words). Added serves contracts and proofs.
 pub mod Words
 pub mod Added
-pub mod Names

@@ -1,93 +1,134 @@
-// What lines are made of, added to a text. Each function answers where what it added ends, and has a `requires` for the room that
-// it needs at most.
+// A text in fixed memory, and what its lines are made of: bytes, numbers in decimal, the kinds' names. Each is added to the end of the
+// text; the caller sees to the room.
 #![tactic(auto)]
 
-ghost use Rattle.std.specs.Prelude.{◌+◌, ◌≤◌, ◌≡◌, [], ◌∷◌, length};
-ghost use Rattle.words.specs.Added.{Added};
-ghost use Rattle.words.specs.Names.{names_below};
+ghost use Rattle.std.specs.Prelude.{◌+◌, ◌≤◌, ◌≡◌, [], ◌∷◌, ◌++◌, length};
+ghost use Rattle.words.specs.Added.{text_length, Added};
 ghost use Rattle.words.specs.Words.{decimal, kind_name, field, labelled};
 
-use numbers::bytes::put_bytes;
+use std::marker::Model;
 
-// Bytes as they are.
-pub fn add(text: &mut [u8], at: usize, word: &[u8]) -> usize
-    requires { at + length word.now ≤ length text.old }
-    ensures { Added (length word.now) text.old at word.now text.new result }
-{
-    put_bytes(text, at, word);
-    at + word.len()
+// Room for what a program prints at once. The longest is what it tells of a group of 4,096 bytes with the most entries, 1,016: 36 bytes at
+// most for the group's own line, 32 at most for each row's.
+pub const TEXT_LENGTH: usize = 32768;
+
+// Bytes in the order in which they were added.
+#[derive(Debug, Drop)]
+pub struct Text {
+    bytes: [u8; TEXT_LENGTH],
+    length: usize,
 }
 
-// One byte.
-pub fn add_byte(text: &mut [u8], at: usize, byte: u8) -> usize
-    requires { at + 1 ≤ length text.old }
-    ensures { Added 1 text.old at (byte ∷ []) text.new result }
-{
-    text[at] = byte;
-    at + 1
+// Clauses see the bytes that were added.
+impl Model for Text {
+    ghost use Rattle.std.specs.Prelude.{ℕ, ◌≤◌, List, take};
+    ghost use Rattle.words.specs.Added.{text_length};
+
+    ghost Value = { List ℕ };
+
+    ghost view = { λ text. take text.length text.bytes };
+
+    ghost invariant = { λ text. text.length ≤ text_length };
 }
 
-// A number in decimal: of 64 bits, which has at most twenty digits, and of 32 bits, which has at most ten.
-pub fn add_long(text: &mut [u8], at: usize, n: u64) -> usize
-    requires { at + 20 ≤ length text.old }
-    ensures { Added 20 text.old at (decimal n) text.new result }
-{
-    let mut digits = [0u8; 20];
-    let k = io::decimal(n, &mut digits);
-    add(text, at, &digits[..k])
-}
+impl Text {
+    pub fn new() -> Self
+        ensures { result ≡ [] }
+    {
+        Text {
+            bytes: [0; TEXT_LENGTH],
+            length: 0,
+        }
+    }
 
-pub fn add_number(text: &mut [u8], at: usize, n: u32) -> usize
-    requires { at + 10 ≤ length text.old }
-    ensures { Added 10 text.old at (decimal n) text.new result }
-{
-    let mut digits = [0u8; 20];
-    let k = io::decimal(n as u64, &mut digits);
-    add(text, at, &digits[..k])
-}
+    pub fn as_bytes(&self) -> &[u8]
+        ensures { result.now ≡ self.now }
+    {
+        &self.bytes[..self.length]
+    }
 
-// A space and a number.
-pub fn add_field(text: &mut [u8], at: usize, n: u32) -> usize
-    requires { at + 11 ≤ length text.old }
-    ensures { Added 11 text.old at (field n) text.new result }
-{
-    let next = add_byte(text, at, b' ');
-    add_number(text, next, n)
-}
+    // Bytes as they are.
+    pub fn add(&mut self, word: &[u8])
+        requires { length self.old + length word.now ≤ text_length }
+        ensures { Added (length word.now) self.old word.now self.new }
+    {
+        let end = self.length + word.len();
+        self.bytes[self.length..end].copy_from_slice(word);
+        self.length = end;
+    }
 
-// A word, then a space and a number.
-pub fn add_labelled(text: &mut [u8], at: usize, word: &[u8], n: u32) -> usize
-    requires { at + (length word.now + 11) ≤ length text.old }
-    ensures { Added (length word.now + 11) text.old at (labelled word.now n) text.new result }
-{
-    let said = add(text, at, word);
-    add_field(text, said, n)
-}
+    // One byte.
+    pub fn add_byte(&mut self, byte: u8)
+        requires { length self.old + 1 ≤ text_length }
+        ensures { Added 1 self.old (byte ∷ []) self.new }
+    {
+        self.bytes[self.length] = byte;
+        self.length += 1;
+    }
 
-// How many bytes the names of the kinds below kind k have together.
-fn names_below(k: u64) -> usize
-    ensures { result ≡ names_below k }
-{
-    match k {
-        0 => 0,
-        1 => 0,
-        2 => 5,
-        3 => 14,
-        4 => 20,
-        5 => 25,
-        6 => 29,
-        7 => 35,
-        _ => 39,
+    // The digits of a number.
+    #[tactic(auto, using(crate::proofs::DecimalLaws::decimal_fewest))]
+    fn add_digits(&mut self, n: u64)
+        requires { length self.old + length (decimal n) ≤ text_length }
+        ensures { self.new ≡ self.old ++ decimal n }
+    {
+        let mut digits = [0u8; 20];
+        let count = io::decimal(n, &mut digits);
+        self.add(&digits[..count]);
+    }
+
+    // A number in decimal: of 64 bits, which has at most twenty digits.
+    #[tactic(auto, using(crate::proofs::DecimalLaws::decimal_20, std::proofs::lemmas::Grind::common_steps))]
+    pub fn add_number(&mut self, n: u64)
+        requires { length self.old + 20 ≤ text_length }
+        ensures { Added 20 self.old (decimal n) self.new }
+    {
+        self.add_digits(n);
+    }
+
+    // A space and a number of 32 bits, which has at most ten digits.
+    #[tactic(auto, using(crate::proofs::DecimalLaws::decimal_10, std::proofs::lemmas::Grind::common_steps), unfolding(crate::specs::Words::field))]
+    pub fn add_field(&mut self, n: u32)
+        requires { length self.old + 11 ≤ text_length }
+        ensures { Added 11 self.old (field n) self.new }
+    {
+        self.add_byte(b' ');
+        self.add_digits(n as u64);
+    }
+
+    // A word, then a space and a number.
+    #[tactic(auto, unfolding(crate::specs::Words::labelled))]
+    pub fn add_labelled(&mut self, word: &[u8], n: u32)
+        requires { length self.old + (length word.now + 11) ≤ text_length }
+        ensures { Added (length word.now + 11) self.old (labelled word.now n) self.new }
+    {
+        self.add(word);
+        self.add_field(n);
+    }
+
+    // The name of a kind; of a number that is no kind's, nothing.
+    pub fn add_kind(&mut self, kind: u64)
+        requires { length self.old + 9 ≤ text_length }
+        ensures { Added 9 self.old (kind_name kind) self.new }
+    {
+        self.add(kind_name(kind));
     }
 }
 
-// The name of a row's kind.
-pub fn add_kind(text: &mut [u8], at: usize, kind: u32) -> usize
-    requires { at + 9 ≤ length text.old }
-    ensures { Added 9 text.old at (kind_name kind) text.new result }
+// The name of a kind; of a number that is no kind's, no bytes.
+#[tactic(auto, unfolding(crate::specs::Words::kind_name))]
+fn kind_name(kind: u64) -> &'static [u8]
+    ensures name { result.now ≡ kind_name kind }
+    ensures few { length result.now ≤ 9 }
 {
-    let names = *b"totalseparatormiddlestartlastentireskip";
-    let from = names_below(kind as u64);
-    let to = names_below(kind as u64 + 1);
-    add(text, at, &names[from..to])
+    match kind {
+        1 => b"total",
+        2 => b"separator",
+        3 => b"middle",
+        4 => b"start",
+        5 => b"last",
+        6 => b"entire",
+        7 => b"skip",
+        _ => b"",
+    }
 }

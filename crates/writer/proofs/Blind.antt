@@ -14,7 +14,7 @@ use Rattle.laying.specs.declared.Fit.TheVariants as fit
 use Rattle.laying.specs.Room.{room, fit_of, separator_fits, middle_length, last_with_total}
 use Rattle.laying.specs.Laying.{desk, lay_entry, lay_data, lay_part, lay_skip, zero_gap, shut, moved, pay_owed, ready, warn_state}
 use Rattle.sound.specs.State.{record_refusal, separator_refusal, end_refusal, ends_empty}
-use Rattle.writer.specs.declared.WriteAnswer.{WriteAnswer}
+use Rattle.writer.specs.WriteAnswer.{WriteAnswer}
 use Rattle.writer.specs.Calls.{Done, done, finished, closed, or_refused, by_fit, record_free, middle, last, record_inside, record_accepted, record_call, separator_accepted, separator_call, end_accepted, end_call, Call, call, a_record, a_separator, an_end}
 
 -- An answer's two ways.

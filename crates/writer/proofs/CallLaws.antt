@@ -6,7 +6,7 @@ use mathlib.Core.List.{List}
 use Prim.Native.Nat.{ℕ, ◌+◌, ◌-◌, ◌≤◌, ◌<◌}
 use lib.ListN.{length, take}
 use lib.Dec.{leb, ltb}
-use borrow.Author.Tests.{leb-true, leb-false, ltb-true, ltb-false}
+use borrow.Author.Tests.{leb-true, leb-false, ltb-true, ltb-false, eq-eqb}
 use Rattle.answer.specs.Answer.{Accepted}
 use Rattle.answer.specs.Answer.{accepted}
 use Rattle.group.specs.declared.Kind.TheVariants as kind
@@ -18,8 +18,7 @@ use Rattle.laying.specs.Laying.{Desk, desk, lay_entry, lay_part, moved, shut, re
 use Rattle.laying.specs.Bounds.{Fitted, span}
 use Rattle.laying.proofs.RoomLaws.{fitted, separator_fits_lem, separator_lacks}
 use Rattle.sound.specs.State.{ends_empty, record_refusal, separator_refusal, end_refusal}
-use Rattle.writer.specs.Calls.{Done, finished, closed, by_fit, record_free, record_inside, middle, last, record_accepted, record_call, separator_accepted, separator_call, end_accepted, end_call, told, state_of}
-use Rattle.writer.proofs.Desks.{accept}
+use Rattle.writer.specs.Calls.{Done, finished, closed, or_refused, by_fit, record_free, record_inside, middle, last, record_accepted, record_call, separator_accepted, separator_call, end_accepted, end_call, told, state_of}
 
 -- "Record of n bytes, free."
 pub data RecordedFree (bytes : List ℕ) (w : Desk) : Done → Type 0 where
@@ -89,6 +88,10 @@ end_laid warn w = by (ends_empty w.state) refl
     by false e = ends_group e
 
 -- A call that is not refused is what its accepted form leaves.
+accept : (k : ℕ) (w : Desk) (a : Done) → k ≡ 0 → a ≡ or_refused k w a
+unfolding or_refused
+accept k w a e = rw (eq-eqb k 0 e)
+
 pub record_accepts : (bytes : List ℕ) (warn : Bool) (w : Desk) → record_refusal w.state (length w.group) (length bytes) ≡ 0
     → record_call bytes warn w ≡ record_accepted w.state.phase bytes (ready warn w)
 unfolding record_call

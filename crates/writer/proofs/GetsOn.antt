@@ -19,8 +19,8 @@ use Rattle.laying.specs.Laying.{Desk, desk, lay_entry, lay_data, lay_part, lay_s
 use Rattle.sound.specs.State.{is_inside, is_owed, writer_sound, offer_kept, record_refusal, separator_refusal}
 use Rattle.sound.proofs.SoundLaws.{Sound, choose}
 use Rattle.sound.proofs.Accepted.{record_accepted_lem, separator_accepted_lem, end_accepted_lem}
-use Rattle.writer.specs.declared.WriteAnswer.{WriteAnswer}
-use Rattle.writer.specs.declared.WriteAnswer.TheVariants.{Finished, Closed, Refused}
+use Rattle.writer.specs.WriteAnswer.{WriteAnswer}
+use Rattle.writer.specs.WriteAnswer.{Finished, Closed, Refused}
 use Rattle.writer.specs.Calls.{Done, done, finished, closed, or_refused, record_accepted, record_call, separator_call, end_call, Call, call, told}
 use Rattle.writer.specs.Calls.Call.{a_record, a_separator, an_end}
 use Rattle.writer.specs.Offers.{least_taken, GetsOn}

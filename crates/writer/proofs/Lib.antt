@@ -1,7 +1,5 @@
 -- The laws that the proofs of this crate share, and those that the crates above cite.
-pub mod Desks
 pub mod CallLaws
-pub mod Exits
 pub mod Left
 pub mod Ends
 pub mod GetsOn

@@ -12,8 +12,8 @@ use Rattle.laying.specs.declared.Writer.{Writer}
 use Rattle.laying.specs.Laying.{Desk, desk}
 use Rattle.sound.specs.State.{writer_sound}
 use Rattle.sound.proofs.Accepted.{record_accepted_lem, separator_accepted_lem}
-use Rattle.writer.specs.declared.WriteAnswer.{WriteAnswer}
-use Rattle.writer.specs.declared.WriteAnswer.TheVariants.{Closed}
+use Rattle.writer.specs.WriteAnswer.{WriteAnswer}
+use Rattle.writer.specs.WriteAnswer.{Closed}
 use Rattle.writer.specs.Calls.{Call, a_record, a_separator, refusal_of, call, told, state_of}
 use Rattle.writer.specs.Offers.{least_taken, GetsOn, Offers, at_first, again}
 use Rattle.writer.proofs.GetsOn.{Shut, Closing, closing, record_gets_on, separator_at_once, left_accepted, laid_again, few, no_more}

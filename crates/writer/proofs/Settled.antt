@@ -6,7 +6,7 @@ use mathlib.Core.List.{List}
 use Prim.Native.Nat.{ℕ}
 use Rattle.laying.specs.declared.Writer.{Writer}
 use Rattle.laying.specs.Laying.{desk}
-use Rattle.writer.specs.declared.WriteAnswer.{WriteAnswer}
+use Rattle.writer.specs.WriteAnswer.{WriteAnswer}
 use Rattle.writer.specs.Calls.{Done, Meets, record_call, separator_call, end_call}
 
 same : {A : Type 0} {x a b : A} → a ≡ x → b ≡ x → a ≡ b

@@ -24,8 +24,8 @@ use Rattle.laying.proofs.RoomLaws.{room_least}
 use Rattle.sound.specs.State.{writer_sound}
 use Rattle.sound.proofs.SoundLaws.{sound, is_sound}
 use Rattle.sound.proofs.Accepted.{fits, record_accepted_lem, separator_accepted_lem, end_accepted_lem}
-use Rattle.laying.specs.declared.WriterStart.TheVariants as start
-use Rattle.writer.specs.declared.WriteAnswer.TheVariants.{Refused}
+use Rattle.laying.specs.WriterStart as start
+use Rattle.writer.specs.WriteAnswer.{Refused}
 use Rattle.writer.specs.Calls.{Done, done, or_refused, record_call, separator_call, end_call, Call, a_record, a_separator, an_end, refusal_of, call, told, state_of}
 use Rattle.writer.proofs.Ends.{end_rests}
 use Rattle.writer.proofs.Left.{Stays, stays_same, Left, record_left, separator_left, end_left}

@@ -13,10 +13,10 @@ use Rattle.laying.specs.declared.Fit.TheVariants as fit
 use Rattle.laying.specs.Room.{room, fit_of, separator_fits, middle_length, last_with_total}
 use Rattle.laying.specs.Laying.{Desk, lay_entry, lay_part, moved, shut, ready}
 use Rattle.sound.specs.State.{ends_empty, record_refusal, separator_refusal, end_refusal}
-use Rattle.laying.specs.declared.WriterStart.{WriterStart}
-use Rattle.laying.specs.declared.WriterStart.TheVariants as start
-use Rattle.writer.specs.declared.WriteAnswer.{WriteAnswer}
-use Rattle.writer.specs.declared.WriteAnswer.TheVariants.{Finished, Closed, Refused}
+use Rattle.laying.specs.WriterStart.{WriterStart}
+use Rattle.laying.specs.WriterStart as start
+use Rattle.writer.specs.WriteAnswer.{WriteAnswer}
+use Rattle.writer.specs.WriteAnswer.{Finished, Closed, Refused}
 
 -- A call's answer and the buffer that it leaves.
 pub record Done : Type 0 where

@@ -2,3 +2,4 @@
 -- and when an offer gets on.
 pub mod Calls
 pub mod Offers
+pub mod WriteAnswer

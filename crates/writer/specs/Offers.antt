@@ -4,8 +4,8 @@ use Rattle.std.specs.Prelude.{ℕ, ◌+◌, ◌≤◌, ◌<◌, ◌≡◌, Bool,
 use Rattle.group.specs.Sizes.{entry_offset}
 use Rattle.laying.specs.declared.Writer.{Writer}
 use Rattle.laying.specs.Laying.{Desk, desk}
-use Rattle.writer.specs.declared.WriteAnswer.{WriteAnswer}
-use Rattle.writer.specs.declared.WriteAnswer.TheVariants.{Finished, Closed, Refused}
+use Rattle.writer.specs.WriteAnswer.{WriteAnswer}
+use Rattle.writer.specs.WriteAnswer.{Finished, Closed, Refused}
 use Rattle.writer.specs.Calls.{call, a_record}
 
 -- L − 44: what a group holds of a record beside three entries, an owed total, the record's part and the skip.

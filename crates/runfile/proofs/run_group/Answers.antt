@@ -1,24 +1,42 @@
--- `run_group` has room for what is told, and stops where that could not be written. Assumes nothing.
-use Rattle.std.proofs.Common.{ℕ, refl, false, replicate, arith}
+-- `run_group` goes on as its step does, and stops where that could not be written. Assumes nothing.
+use Rattle.std.proofs.Common.{rules, ℕ, ◌≡◌, sym, ap, subst, ◌∙◌, false, is_some, List, [], replicate, Option, None, Bor}
 use Rattle.std.proofs.lemmas.List.{length-replicate}
 use Rattle.reader.specs.declared.Reader.{Reader}
 use Rattle.sections.specs.declared.Pair.{Pair}
-use Rattle.telling.specs.declared.Listed.TheVariants.{Stopped}
-use Rattle.telling.specs.Telling.{group_step, bad_step}
-use Rattle.explaining.specs.Steps.{explain_group}
-use Rattle.programs.specs.declared.Program.{Program}
-use Rattle.programs.specs.declared.Program.TheVariants.{Lister, Explainer}
+use Rattle.sections.specs.Sections.{pair_at}
+use Rattle.telling.specs.Telling.{Step, bad_step}
+use Rattle.programs.specs.Steps.{Program, group_of, image_of}
+use Rattle.programs.proofs.StepLaws.{group_short}
 use Rattle.runfile.specs.Follows.{Follows}
+use Rattle.runfile.proofs.run_group.Goals.{in-Ok, in-Err}
 use Rattle.runfile.proofs.run_group.Goals as goal
 
--- A step that could not be written stops the run, as the step of an image cut short does.
-stopped : (program : Program) (i : ℕ) (s : Reader) (size : ℕ) (pair : Pair) → Follows program i s size pair Stopped
-unfolding group_step explain_group bad_step
-stopped Lister i s size pair = record { whole = false; image = replicate size 0; long = length-replicate size 0; goes = refl }
-stopped Explainer i s size pair = record { whole = false; image = replicate size 0; long = length-replicate size 0; goes = refl }
+-- A run that stops goes on as after an image cut short.
+stopped : (p : Program) (i : ℕ) (s : Reader) (size : ℕ) (pair : Pair) {then : Option Reader} → then ≡ None → Follows p i s size pair then
+unfolding bad_step
+stopped p i s size pair e =
+    record {
+      whole = false;
+      image = replicate size 0;
+      long = length-replicate size 0;
+      goes = e ∙ sym (ap (λ (step : Step). step.then) (group_short p i s (replicate size 0) pair));
+    }
 
-pub returns-then-not-say : goal.returns-then-not-say
-returns-then-not-say g c = stopped _ _ _ _ _
+-- So does one whose image was cut short.
+short : (p : Program) (i : ℕ) (s : Reader) (size : ℕ) (pair : Pair) {then : Option Reader} (image : List ℕ)
+    → then ≡ (group_of p i s false image pair).then → Follows p i s size pair then
+unfolding bad_step
+short p i s size pair image e = stopped p i s size pair (e ∙ ap (λ (step : Step). step.then) (group_short p i s image pair))
 
-pub tell_group-said-requires : goal.tell_group-said-requires
-tell_group-said-requires g c = (omega arith, (omega arith, omega arith))
+pub returns-in_err-ok : goal.returns-in_err-ok
+returns-in_err-ok g c = stopped g.P.Program.program _ _ _ _ c.from_residual.ensures
+
+pub returns : goal.returns
+returns g c =
+    let went = c.tell_group-then.ensures.goes in
+    elim c.match-read_whole.branch [
+      | in-Ok w ↦ record { whole = is_some c.match-read_whole.image; image = image_of c.match-read_whole.image; long = rw w.image-is (search rules); goes = went }
+      | in-Err w ↦
+          short g.P.Program.program _ _ _ _ []
+          (subst (λ (image : Option (Bor (List ℕ))). c.tell_group-then.result ≡ (group_of g.P.Program.program c.args.i c.args.reader (is_some image) (image_of image) (pair_at c.args.sections.now.bytes c.args.i)).then) w.image-is went)
+    ]

@@ -3,7 +3,7 @@ use mathlib.Core.Path.{◌≡◌, sym, ap, ◌∙◌}
 use Prim.Native.Nat.{◌/◌}
 use native.Mathlib.Omega.{arith}
 use lib.ListN.{length}
-use Rattle.entry.specs.declared.ScanEnd.{ScanEnd}
+use Rattle.entry.specs.ScanEnd.{ScanEnd}
 use Rattle.entry.specs.Scan.{scan}
 use Rattle.reader.specs.Answer.{group_scan}
 use Rattle.reader.proofs.Accepted.{Ready, ready, cut, begins}

@@ -5,8 +5,8 @@ use native.Mathlib.Omega.{arith}
 use lib.ListN.{length}
 use Rattle.group.specs.Sizes.{information_length, entry_offset}
 use Rattle.group.specs.Entries.{entries_below}
-use Rattle.entry.specs.declared.ScanEnd.{ScanEnd}
-use Rattle.reader.specs.declared.ReadAnswer.TheVariants as answer
+use Rattle.entry.specs.ScanEnd.{ScanEnd}
+use Rattle.reader.specs.ReadAnswer as answer
 use Rattle.entry.specs.Scan.{scan}
 use Rattle.reader.specs.Answer.{group_scan, answered, read_call}
 use Rattle.reader.proofs.Accepted.{Ready, ready, is_repeat_lem, not_repeat, never_repeat, five_means, cut, begins, read_repeated, read_refused_lem, read_scanned}

@@ -8,8 +8,9 @@ use Rattle.std.specs.Simd.{first_chunks}
 use Rattle.block.specs.Faults.{block_fault}
 use mathlib.Core.Bool.{false}
 use lib.Dec.{eqb}
-use Rattle.answer.proofs.RefusalLaws.{not_zero}
-use Rattle.answer.specs.Refusals.{number_of}
+use Rattle.answer.specs.NotZero.{track_not_zero}
+use Rattle.answer.specs.Numbers.{track_number}
+use Rattle.answer.specs.Results.{number_of}
 use Rattle.track.specs.Answer.{Refused, answer_of}
 use Rattle.track.proofs.BlockLaws.{block_read}
 use Rattle.track.proofs.Judged.{fault_of, judged_fault, judged_on, judged_all, read_blocks}
@@ -29,8 +30,8 @@ loop-number-preserved c =
 pub returns-in_err-map_err : goal.returns-in_err-map_err
 returns-in_err-map_err c =
     let less = c.loop-number-test.true in
-    let e : answer_of c.from_residual.result ≡ Refused (number_of c.judge_block.result) c.loop-number.number-counter = search rules in
-    let n : eqb (number_of c.judge_block.result) 0 ≡ false = search (rules, not_zero) in
+    let e : answer_of c.from_residual.result ≡ Refused (number_of track_number c.judge_block.result) c.loop-number.number-counter = search rules in
+    let n : eqb (number_of track_number c.judge_block.result) 0 ≡ false = search (rules, track_not_zero) in
     e ∙ judged_fault (fault_of _ _) _ _ less (met _ c.args.track.now _ _ _ _ (search rules) c.as_chunks.ensures.front less c.from.ensures c.judge_block.ensures) c.loop-number.invariant n
     ∙ read_blocks _ _ _ _ _ (record { track = search rules; packs = refl; items = refl; numbers = refl })
 

@@ -1,2 +1,0 @@
--- Laws of the numbers of refusals.
-pub mod RefusalLaws
