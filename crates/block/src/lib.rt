@@ -17,7 +17,7 @@ pub const LENGTH: usize = 35;
 pub const DATA_PART_LENGTH: usize = 32;
 
 // One block: 3 bytes of header, 24 of items and 8 of close, from the four places that are lent. With Pack ID 6 it closes in
-// zeros, whatever was lent.
+// zeros, whatever was lent. `block` is a slice and no array, since proofs do not know what is written through `as_chunks_mut`.
 pub fn put_block(block: &mut [u8], header: Header, places: &[u8; DATA_PART_LENGTH])
     requires { length block.old ≡ block_length }
     ensures { block.new ≡ block_of header.area header.pack header.block places.now }

@@ -3,8 +3,6 @@
 
 ghost use Rattle.std.specs.Prelude.{◌≡◌, [], ◌∷◌, length};
 ghost use Rattle.std.specs.Prelude.{Ok};
-ghost use Rattle.answer.specs.Numbers.{refusal_number};
-ghost use Rattle.answer.specs.Results.{told_of};
 ghost use Rattle.reader.specs.declared.Read.TheVariants.{Accepted};
 ghost use Rattle.reader.specs.ReadAnswer.{answer_of};
 ghost use Rattle.reader.specs.Answer.{told};
@@ -14,7 +12,7 @@ ghost use Rattle.c_reader.specs.Calls.{dds_reader_start, state_left, dds_read};
 ghost use Rattle.storing.specs.ForContracts.{Follows};
 
 use answer::refusals::Refusal;
-use answer::{Outcome, Refused, Told};
+use answer::{Outcome, Refused};
 use reader::{Read, Reader};
 
 // A fresh reader, into the state slice.
@@ -32,19 +30,6 @@ pub fn start(size: u32, first: u32, state: &mut [u8], answer: &mut [u8]) -> u32
     slices::tell(answer, answer::plainly_told(started))
 }
 
-// What a read tells of its answer.
-fn told_of(done: Result<Read, Refused<Refusal>>) -> Told<Refusal>
-    ensures { (given : Reader) → told_of refusal_number result ≡ told (answer_of given done) }
-{
-    match done? {
-        Read::Accepted(_) => Ok(Outcome::default()),
-        Read::Repeated => Ok(Outcome {
-            outcome: 2,
-            ..Outcome::default()
-        }),
-    }
-}
-
 // What a read leaves in the state and the answer, and what it returns. A new state's size stands in the slice already, and the
 // number before its next.
 fn finish(state: &mut [u8], answer: &mut [u8], done: Result<Read, Refused<Refusal>>) -> u32
@@ -53,10 +38,20 @@ fn finish(state: &mut [u8], answer: &mut [u8], done: Result<Read, Refused<Refusa
     ensures state_after { (given : Reader) → state.new ≡ state_left (answer_of given done) state.old }
     ensures tells { (given : Reader) → Tells (told (answer_of given done)) result answer.new }
 {
-    if let Ok(Read::Accepted(reader)) = done {
-        storing::put_next(state, reader);
+    match done {
+        Ok(Read::Accepted(reader)) => {
+            storing::put_next(state, reader);
+            slices::tell::<Refusal>(answer, Ok(Outcome::default()))
+        }
+        Ok(Read::Repeated) => {
+            let repeated = Outcome {
+                outcome: 2,
+                ..Outcome::default()
+            };
+            slices::tell::<Refusal>(answer, Ok(repeated))
+        }
+        Err(refused) => slices::tell(answer, Err(refused)),
     }
-    slices::tell(answer, told_of(done))
 }
 
 // Reads one group: its rows, and the state for the next.

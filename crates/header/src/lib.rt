@@ -5,7 +5,8 @@
 ghost use Rattle.std.specs.Prelude.{◌≡◌, ◌<◌};
 ghost use Rattle.header.specs.Header.{even, tape_area, area_kept, sw1_of, sw2_of, header_of, pack_of, pack_kept, sw1_kept, sw2_kept};
 
-// The tape areas: an Area ID without its first bit, X.
+// The tape areas: an Area ID without its first bit, X. Numbers and no enum: two tests alone look at them, and an enum would first
+// have to be made by those same tests.
 pub const REFERENCE_AREA: u32 = 1;
 
 pub const SYSTEM_AREA: u32 = 2;

@@ -47,18 +47,23 @@ pub fn tell<R: Numbered>(answer: &mut [u8], told: Told<R>) -> u32
     requires { length answer.old ≡ answer_length }
     ensures { Tells (told_of R.number told) result answer.new }
 {
-    let (refusal, place, outcome) = match told {
-        Ok(outcome) => (0, 0, outcome),
-        Err(refused) => (refused.refusal.number(), refused.place, Outcome::default()),
-    };
-    put_answer(
-        answer,
-        refusal,
-        place,
-        outcome.outcome,
-        outcome.number,
-        outcome.entries,
-        outcome.taken,
-    );
-    refusal
+    match told {
+        Ok(told) => {
+            put_answer(
+                answer,
+                0,
+                0,
+                told.outcome,
+                told.number,
+                told.entries,
+                told.taken,
+            );
+            0
+        }
+        Err(refused) => {
+            let refusal = refused.refusal.number();
+            put_answer(answer, refusal, refused.place, 0, 0, 0, 0);
+            refusal
+        }
+    }
 }
