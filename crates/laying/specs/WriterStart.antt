@@ -8,6 +8,7 @@ pub data WriterStart : Type 0 where
   Started : Writer → WriterStart
   Refused : (refusal : ℕ) → WriterStart
 
+-- The code's own result of a start, as that.
 abbrev pub start_of : {R : Type 0} → (R → ℕ) → Result Writer R → WriterStart
 start_of number (Ok s) = Started s
 start_of number (Err r) = Refused (number r)

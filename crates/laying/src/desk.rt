@@ -47,7 +47,7 @@ impl<'a> Desk<'a> {
 
     // b4 is set, and an owed total is laid.
     #[tactic(auto, unfolding(crate::specs::Laying::ready, crate::specs::Laying::warn_state, crate::specs::Laying::pay_owed, crate::specs::Laying::moved, crate::specs::Laying::lay_entry))]
-    pub fn ready(given: Writer, group: &'a mut [u8], warn: bool) -> Desk<'a>
+    pub fn ready(given: Writer, group: &'a mut [u8], warn: bool) -> Self
         requires { Ready given group.old }
         ensures same_group { result.group.ghost_name ≡ group.entry.ghost_name }
         ensures laid { desk_of result ≡ ready warn (desk given group.old) }
@@ -58,7 +58,7 @@ impl<'a> Desk<'a> {
             warned: warn || given.warned,
             ..given
         };
-        let mut desk = Desk { state, group };
+        let mut desk = Self { state, group };
         if given.phase == Phase::Owed {
             desk.lay_entry(Kind::Total, given.sum);
             desk.moved(Phase::Free, 0, 0);
@@ -77,6 +77,7 @@ impl<'a> Desk<'a> {
     }
 
     // How a record of n bytes goes into the room.
+    #[tactic(auto, unfolding(crate::specs::Room::fit_of), using(crate::proofs::SignedLaws::le_read, crate::proofs::SignedLaws::read, crate::proofs::RoomLaws::room_natural))]
     pub fn fit(&self, n: u32) -> Fit
         ensures { result ≡ fit_of n (room self.now.state) }
     {

@@ -29,11 +29,11 @@ pub struct Writer {
 impl Writer {
     // A fresh writer: free, with nothing laid.
     #[tactic(auto, unfolding(crate::specs::Start::writer_start_call), using(answer::specs::NotZero::refusal_not_zero))]
-    pub fn start(size: u32, first: u32) -> Result<Writer, Refusal>
+    pub fn start(size: u32, first: u32) -> Result<Self, Refusal>
         ensures { start_of refusal_number result ≡ writer_start_call size first }
     {
         group::state::start_refusal(size, first)?;
-        Ok(Writer {
+        Ok(Self {
             size,
             next: first,
             phase: Phase::Free,

@@ -13,6 +13,7 @@ use reader::Reader;
 
 // A number from index `at` on. One that stands there already is not stored again: the test keeps its four byte stores apart
 // from the next number's, so that they become one, and the next call's load does not wait for them.
+#[tactic(auto, using(numbers::proofs::InBytes::put_standing))]
 fn keep(slice: &mut [u8], at: usize, n: u32)
     requires { at + 4 ≤ length slice.old }
     ensures { slice.new ≡ put slice.old at (bytes_of 4 n) }

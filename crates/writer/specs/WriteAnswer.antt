@@ -13,11 +13,12 @@ pub data WriteAnswer : Type 0 where
   Closed : Writer → (number entries taken : ℕ) → WriteAnswer
   Refused : Writer → (refusal : ℕ) → WriteAnswer
 
+-- What a call did that is not refused, as that.
 abbrev pub written : Written → WriteAnswer
 written (code.Finished w) = Finished w
 written (code.Closed w number entries taken) = Closed w number entries taken
 
--- In the given state.
+-- The code's own result of a call on the given state, as that.
 abbrev pub answer_of : Writer → Result Written Refusal → WriteAnswer
 answer_of given (Ok w) = written w
 answer_of given (Err r) = Refused given (refusal_number r)
