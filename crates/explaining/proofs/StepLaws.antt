@@ -1,13 +1,21 @@
--- Which step each answer of a read is.
+-- Which step each answer of a read is, and that a read that is refused has an explanation.
 -- Assumes nothing.
 use Prim.Native.Nat.{ℕ}
-use mathlib.Core.Path.{◌≡◌}
+use mathlib.Core.Path.{◌≡◌, sym, ap, subst, ◌∙◌}
+use mathlib.Core.Bool.{true≢false}
 use mathlib.Core.List.{List}
+use lib.Dec.{eqb}
+use Rattle.answer.specs.declared.refusals.Refusal.{Refusal}
+use Rattle.answer.specs.Numbers.{refusal_number}
+use Rattle.answer.specs.NotZero.{refusal_not_zero}
 use Rattle.reader.specs.declared.Reader.{Reader}
 use Rattle.reader.specs.ReadAnswer.{ReadAnswer}
-use Rattle.reader.specs.Answer.{read_call}
+use Rattle.reader.specs.ReadAnswer as answer
+use Rattle.reader.specs.Answer.{read_call, told}
 use Rattle.explain.specs.Explanation.{Explanation}
-use Rattle.explain.specs.Explanation.{explained}
+use Rattle.explain.specs.Explanation.{no_refusal, explained}
+use Rattle.explain.specs.Truth.{SameTold}
+use Rattle.explain.proofs.Theorems.{explained_same}
 use Rattle.telling.specs.Telling.{row_numbers}
 use Rattle.explaining.specs.Steps.{reading_step, row_bytes, explain_read}
 
@@ -16,3 +24,11 @@ pub read_step_lem : (i : ℕ) (s : Reader) (image : List ℕ) (number n : ℕ) (
     → x ≡ explained s image number n row_bytes → explain_read i s image number n ≡ reading_step b i x
 unfolding explain_read
 read_step_lem i s image number n a b x e f g = rw (← e, f, ← g)
+
+-- A read that is refused has an explanation.
+pub refused_explained : (s : Reader) (image : List ℕ) (number n : ℕ) (refusal : Refusal) (place : ℕ)
+    → answer.Refused s (refusal_number refusal) place ≡ read_call s image number n row_numbers → no_refusal ≡ explained s image number n row_bytes → ⊥
+refused_explained s image number n refusal place e f =
+    let told_same = subst (λ (a : ReadAnswer). SameTold (told a) (explained s image number n row_bytes)) (sym e) (explained_same s image number n row_bytes) in
+    let same = subst (λ (x : Explanation). SameTold (told (answer.Refused s (refusal_number refusal) place)) x) (sym f) told_same in
+    true≢false (ap (λ (k : ℕ). eqb k 0) same.0 ∙ refusal_not_zero refusal)

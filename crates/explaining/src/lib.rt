@@ -3,14 +3,16 @@
 #![tactic(auto)]
 
 ghost use Rattle.std.specs.Prelude.{◌+◌, ◌≤◌, length, None};
+ghost use Rattle.answer.specs.Numbers.{refusal_number};
 ghost use Rattle.words.specs.Added.{text_length};
 ghost use Rattle.telling.specs.Telling.{last, longest_text, Tells};
 ghost use Rattle.reason_lines.specs.Lines.{refused_lines};
 ghost use Rattle.explaining.specs.Steps.{start_explained, explain_read};
 
+use answer::refusals::Refusal;
 use explain::Explanation;
 use group::Group;
-use reader::{ReadAnswer, Reader};
+use reader::{Read, Reader};
 use reasons::Reason;
 use sections::Pair;
 use words::Text;
@@ -21,9 +23,9 @@ const ROW_NUMBERS: usize = 3048;
 const ROW_BYTES: usize = 12192;
 
 // A start that is refused, and why.
-pub fn tell_start_refused(text: &mut Text, refusal: u32, first: u32)
+pub fn tell_start_refused(text: &mut Text, refusal: Refusal, first: u32)
     requires { length text.old + longest_text ≤ text_length }
-    ensures { Tells (last (refused_lines 1 (start_explained refusal first))) text.old text.new None }
+    ensures { Tells (last (refused_lines 1 (start_explained (refusal_number refusal) first))) text.old text.new None }
 {
     let x = Explanation {
         refusal,
@@ -46,10 +48,11 @@ pub fn tell_read(
     ensures { Tells (explain_read i reader image.now pair.number pair.entries) text.old text.new result }
 {
     match reader.judge(image, pair.number, pair.entries, ROW_NUMBERS) {
-        ReadAnswer::Accepted(next) => Some(next),
-        ReadAnswer::Repeated(state) => Some(state),
-        ReadAnswer::Refused { .. } => {
-            let x = Explanation::of(reader, image, pair.number, pair.entries, ROW_BYTES);
+        Ok(Read::Accepted(next)) => Some(next),
+        Ok(Read::Repeated) => Some(reader),
+        Err(_) => {
+            // What is refused has an explanation, so that the run never stops here without a word.
+            let x = Explanation::of(reader, image, pair.number, pair.entries, ROW_BYTES)?;
             reason_lines::add_refused(text, i, x);
             None
         }

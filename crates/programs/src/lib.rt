@@ -3,13 +3,15 @@
 #![tactic(auto)]
 
 ghost use Rattle.std.specs.Prelude.{◌+◌, ◌*◌, ◌≤◌, length, is_some, None};
+ghost use Rattle.answer.specs.Numbers.{refusal_number};
 ghost use Rattle.words.specs.Added.{text_length};
 ghost use Rattle.sections.specs.Sections.{most_groups, pair_at};
 ghost use Rattle.telling.specs.Telling.{longest_text, Tells};
 ghost use Rattle.programs.specs.Steps.{start_of, group_of, refused_start_of, read_of, image_of};
 ghost use Rattle.programs.specs.Steps as programs;
 
-use reader::{Reader, ReaderStart};
+use answer::refusals::{Numbered, Refusal};
+use reader::Reader;
 use sections::Pair;
 use words::Text;
 
@@ -19,9 +21,9 @@ pub trait Program {
     ghost program: { programs.Program };
 
     // A start that is refused.
-    fn tell_start_refused(&self, text: &mut Text, refusal: u32, first: u32)
+    fn tell_start_refused(&self, text: &mut Text, refusal: Refusal, first: u32)
         requires { length text.old + longest_text ≤ text_length }
-        ensures { Tells (refused_start_of program refusal first) text.old text.new None };
+        ensures { Tells (refused_start_of program (refusal_number refusal) first) text.old text.new None };
 
     // The i-th group of the file, whose image is whole.
     fn tell_read(
@@ -42,8 +44,8 @@ pub struct Lister;
 impl Program for Lister {
     ghost program = { programs.Lister };
 
-    fn tell_start_refused(&self, text: &mut Text, refusal: u32, _first: u32) {
-        lines::add_refusal(text, refusal, 0);
+    fn tell_start_refused(&self, text: &mut Text, refusal: Refusal, _first: u32) {
+        lines::add_refusal(text, refusal.number(), 0);
     }
 
     fn tell_read(
@@ -64,7 +66,7 @@ pub struct Explainer;
 impl Program for Explainer {
     ghost program = { programs.Explainer };
 
-    fn tell_start_refused(&self, text: &mut Text, refusal: u32, first: u32) {
+    fn tell_start_refused(&self, text: &mut Text, refusal: Refusal, first: u32) {
         explaining::tell_start_refused(text, refusal, first)
     }
 
@@ -92,8 +94,8 @@ pub fn tell_start<P: Program>(
 {
     let first = sections::pair_at(bytes, 0);
     match Reader::start(size, first.number) {
-        ReaderStart::Started(reader) => Some(reader),
-        ReaderStart::Refused(refusal) => {
+        Ok(reader) => Some(reader),
+        Err(refusal) => {
             program.tell_start_refused(text, refusal, first.number);
             None
         }

@@ -1,36 +1,39 @@
 // The lines of a refusal, each added to the end of a text. Each function has a `requires` for the room that it needs at most.
 #![tactic(auto)]
 
-ghost use Rattle.std.specs.Prelude.{◌+◌, ◌≤◌, ◌<◌, ◌≡◌, cond, [], ◌++◌, length};
+ghost use Rattle.std.specs.Prelude.{◌+◌, ◌≤◌, ◌<◌, ◌≡◌, cond, [], ◌++◌, length, Some};
+ghost use Rattle.answer.specs.Numbers.{refusal_number};
 ghost use Rattle.words.specs.Added.{text_length, Added};
 ghost use Rattle.words.specs.Words.{ascii, kind_name};
 ghost use Rattle.reasons.specs.Truth.{is_permitted};
+ghost use Rattle.explain.specs.Explanation.{explanation_of};
 ghost use Rattle.reason_lines.specs.Lines.{wrong, byte_of, where_line, limits, permitted_names, found_words, found_line, refused_lines};
 
+use answer::refusals::{Numbered, Refusal};
 use explain::Explanation;
 use reasons::Reason;
 use words::Text;
 
 // What is wrong, in words.
 #[tactic(auto, unfolding(crate::specs::Lines::wrong))]
-fn wrong(refusal: u32) -> &'static [u8]
-    ensures words { result.now ≡ wrong refusal }
+fn wrong(refusal: Refusal) -> &'static [u8]
+    ensures words { result.now ≡ wrong (refusal_number refusal) }
     ensures few { length result.now ≤ 40 }
 {
     match refusal {
-        3 => b"the first number is out of range",
-        5 => b"the number is not the next",
-        6 => b"the entry count is out of range",
-        8 => b"no entry has this flag",
-        9 => b"bit b4 went out",
-        10 => b"this kind may not stand here",
-        12 => b"the data would pass into the table",
-        13 => b"the skip count is wrong",
-        19 => b"a part of no bytes",
-        20 => b"a separator above 1",
-        21 => b"the record is too long",
-        22 => b"the total is not the sum of its parts",
-        23 => b"the total had room here",
+        Refusal::First => b"the first number is out of range",
+        Refusal::Number => b"the number is not the next",
+        Refusal::Entries => b"the entry count is out of range",
+        Refusal::Flag => b"no entry has this flag",
+        Refusal::B4 => b"bit b4 went out",
+        Refusal::Follow => b"this kind may not stand here",
+        Refusal::Room => b"the data would pass into the table",
+        Refusal::Skip => b"the skip count is wrong",
+        Refusal::ZeroPart => b"a part of no bytes",
+        Refusal::AboveOne => b"a separator above 1",
+        Refusal::TooLong => b"the record is too long",
+        Refusal::TotalDiffers => b"the total is not the sum of its parts",
+        Refusal::OwedEarly => b"the total had room here",
         _ => b"",
     }
 }
@@ -39,7 +42,7 @@ fn wrong(refusal: u32) -> &'static [u8]
 #[tactic(auto, unfolding(crate::specs::Lines::byte_of))]
 fn add_byte_of(text: &mut Text, x: Explanation)
     requires { length text.old + 16 ≤ text_length }
-    ensures { Added 16 text.old (byte_of x) text.new }
+    ensures { Added 16 text.old (byte_of (explanation_of (Some x))) text.new }
 {
     if x.place != 0 {
         text.add_labelled(b" byte", x.offset);
@@ -50,7 +53,7 @@ fn add_byte_of(text: &mut Text, x: Explanation)
 #[tactic(auto, unfolding(crate::specs::Lines::where_line))]
 fn add_where(text: &mut Text, i: u32, x: Explanation)
     requires { length text.old + 75 ≤ text_length }
-    ensures { Added 75 text.old (where_line i x) text.new }
+    ensures { Added 75 text.old (where_line i (explanation_of (Some x))) text.new }
 {
     text.add_labelled(b"group", i);
     add_byte_of(text, x);
@@ -103,26 +106,28 @@ fn add_kinds(text: &mut Text, why: Reason)
 
 // What was found, and what is allowed.
 #[tactic(auto, unfolding(crate::specs::Lines::found_words))]
-fn add_found_words(text: &mut Text, refusal: u32, why: Reason)
+fn add_found_words(text: &mut Text, refusal: Refusal, why: Reason)
     requires { length text.old + 90 ≤ text_length }
-    ensures { Added 90 text.old (found_words refusal why) text.new }
+    ensures { Added 90 text.old (found_words (refusal_number refusal) why) text.new }
 {
-    if refusal == 10 {
-        text.add_kind(why.found);
-        text.add(b", permitted");
-        add_kinds(text, why);
-        return;
-    }
-    text.add_number(why.found);
-    if refusal != 8 {
-        add_limits(text, why);
+    match refusal {
+        Refusal::Follow => {
+            text.add_kind(why.found);
+            text.add(b", permitted");
+            add_kinds(text, why);
+        }
+        Refusal::Flag => text.add_number(why.found),
+        _ => {
+            text.add_number(why.found);
+            add_limits(text, why);
+        }
     }
 }
 
 #[tactic(auto, unfolding(crate::specs::Lines::found_line))]
 fn add_found(text: &mut Text, x: Explanation)
     requires { length text.old + 97 ≤ text_length }
-    ensures { Added 97 text.old (found_line x) text.new }
+    ensures { Added 97 text.old (found_line (explanation_of (Some x))) text.new }
 {
     text.add(b"found ");
     add_found_words(text, x.refusal, x.why);
@@ -133,9 +138,9 @@ fn add_found(text: &mut Text, x: Explanation)
 #[tactic(auto, unfolding(crate::specs::Lines::refused_lines))]
 pub fn add_refused(text: &mut Text, i: u32, x: Explanation)
     requires { length text.old + 205 ≤ text_length }
-    ensures { Added 205 text.old (refused_lines i x) text.new }
+    ensures { Added 205 text.old (refused_lines i (explanation_of (Some x))) text.new }
 {
-    lines::add_refusal(text, x.refusal, x.place);
+    lines::add_refusal(text, x.refusal.number(), x.place);
     add_where(text, i, x);
     add_found(text, x);
 }

@@ -1,6 +1,6 @@
 -- Laws of what is told: a step under another account of it, which step each answer of a read is, and the lines of the rows that it
 -- leaves. Assumes nothing.
-use Rattle.std.specs.Prelude.{Option, Some}
+use Rattle.std.specs.Prelude.{Option, Some, Result, Ok}
 use Prim.Native.Nat.{ℕ, ◌*◌, ◌≤◌}
 use mathlib.Core.Path.{◌≡◌, refl, sym, ap, ◌∙◌, subst}
 use mathlib.Core.List.{List, [], append-nil}
@@ -9,8 +9,11 @@ use lib.ListN.{length, take}
 use Rattle.numbers.specs.Store.{put}
 use Rattle.numbers.proofs.Stores.{put_stands}
 use Rattle.reader.proofs.GroupRows.{length_group_rows}
+use Rattle.answer.specs.declared.Refused.{Refused}
+use Rattle.answer.specs.declared.refusals.Refusal.{Refusal}
 use Rattle.reader.specs.declared.Reader.{Reader}
-use Rattle.reader.specs.ReadAnswer.{ReadAnswer}
+use Rattle.reader.specs.declared.Read.{Read}
+use Rattle.reader.specs.ReadAnswer.{ReadAnswer, answer_of}
 use Rattle.reader.specs.ReadAnswer as answer
 use Rattle.reader.specs.Answer.{read_call, group_rows, rows_left, as_numbers, Reads}
 use Rattle.reader.proofs.Accepted.{accepted}
@@ -42,6 +45,11 @@ lines_left s group number n old h =
     let own : take (3 * n) (put old 0 new) ≡ new = ap (λ (k : ℕ). take k (put old 0 new)) (sym long) ∙ put_stands old 0 new (omega (arith, long)) in
     let same : row_lines n (put old 0 new) ≡ row_lines n new = sym (rows_first n (3 * n) (put old 0 new) (omega arith)) ∙ ap (λ (r : List ℕ). row_lines n r) own in
     rw same
+
+-- What a read answers whose result is not an error.
+pub answer_is : (s : Reader) {result : Result Read (Refused Refusal)} {read known : Read} → result ≡ Ok read → read ≡ known
+    → answer_of s result ≡ answer_of s (Ok known)
+answer_is s e f = ap (answer_of s) e ∙ ap (λ (r : Read). answer_of s (Ok r)) f
 
 -- A read, by its own answer and the rows that it leaves.
 module _ (s : Reader) (group : List ℕ) (number n : ℕ) (old rows : List ℕ) (a : ReadAnswer) (room : length old ≡ row_numbers)

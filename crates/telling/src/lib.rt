@@ -5,7 +5,9 @@ ghost use Rattle.std.specs.Prelude.{◌+◌, ◌≤◌, length, None};
 ghost use Rattle.words.specs.Added.{text_length};
 ghost use Rattle.telling.specs.Telling.{bad_step, read_step, end_step, longest_text, Tells};
 
-use reader::{ReadAnswer, Reader};
+use answer::Refused;
+use answer::refusals::Numbered;
+use reader::{Read, Reader};
 use sections::Pair;
 use words::Text;
 
@@ -28,16 +30,16 @@ pub fn tell_read(text: &mut Text, reader: Reader, image: &[u8], pair: Pair) -> O
 {
     let mut rows = [0u32; ROW_NUMBERS];
     match reader.read(image, pair.number, pair.entries, &mut rows) {
-        ReadAnswer::Accepted(next) => {
+        Ok(Read::Accepted(next)) => {
             lines::add_group(text, pair.number, pair.entries, &rows);
             Some(next)
         }
-        ReadAnswer::Repeated(state) => {
+        Ok(Read::Repeated) => {
             lines::add_repeat(text, pair.number);
-            Some(state)
+            Some(reader)
         }
-        ReadAnswer::Refused { refusal, place, .. } => {
-            lines::add_refusal(text, refusal, place);
+        Err(Refused { refusal, place }) => {
+            lines::add_refusal(text, refusal.number(), place);
             None
         }
     }
