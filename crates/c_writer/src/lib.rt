@@ -4,15 +4,14 @@
 ghost use Rattle.std.specs.Prelude.{◌≡◌, ◌&&◌, [], ◌∷◌, length};
 ghost use Rattle.answer.specs.Numbers.{refusal_number};
 ghost use Rattle.answer.specs.Answer.{if_accepted};
-ghost use Rattle.answer.specs.Results.{told_of};
 ghost use Rattle.writer.specs.WriteAnswer.{answer_of};
 ghost use Rattle.writer.specs.Calls.{told, state_of};
 ghost use Rattle.slices.specs.Call.{left, answer_length, lengths_kept, Tells, Refuses};
 ghost use Rattle.states.specs.States.{writer_length, b4_meant, writer_bytes, writer_meant};
 ghost use Rattle.c_writer.specs.Calls.{dds_writer_start, dds_record, dds_separator, dds_end};
 
+use answer::Outcome;
 use answer::refusals::Refusal;
-use answer::{Outcome, Told};
 use laying::Writer;
 use writer::Written;
 
@@ -46,26 +45,6 @@ fn refused(state: &[u8], warn: u32, answer: &mut [u8]) -> bool
     false
 }
 
-// What a call tells of its answer.
-fn told_of(done: Result<Written, Refusal>) -> Told<Refusal>
-    ensures { (given : Writer) → told_of refusal_number result ≡ told (answer_of given done) }
-{
-    match done? {
-        Written::Finished(_) => Ok(Outcome::default()),
-        Written::Closed {
-            number,
-            entries,
-            taken,
-            ..
-        } => Ok(Outcome {
-            outcome: 1,
-            number,
-            entries,
-            taken,
-        }),
-    }
-}
-
 // What a call leaves in the state and the answer, and what it returns.
 #[tactic(auto, unfolding(writer::specs::Calls::state_of))]
 fn finish(state: &mut [u8], answer: &mut [u8], done: Result<Written, Refusal>) -> u32
@@ -74,12 +53,29 @@ fn finish(state: &mut [u8], answer: &mut [u8], done: Result<Written, Refusal>) -
     ensures tells { (given : Writer) → Tells (told (answer_of given done)) result answer.new }
 {
     match done {
-        Ok(Written::Finished(writer) | Written::Closed { state: writer, .. }) => {
+        Ok(Written::Finished(writer)) => {
             storing::put_writer(state, writer);
+            slices::tell::<Refusal>(answer, Ok(Outcome::default()))
         }
-        Err(_) => {}
+        Ok(
+            Written::Closed {
+                state: writer,
+                number,
+                entries,
+                taken,
+            },
+        ) => {
+            storing::put_writer(state, writer);
+            let closed = Outcome {
+                outcome: 1,
+                number,
+                entries,
+                taken,
+            };
+            slices::tell::<Refusal>(answer, Ok(closed))
+        }
+        Err(refusal) => slices::tell(answer, Err(refusal.into())),
     }
-    slices::tell(answer, told_of(done))
 }
 
 // A record's bytes: whole, or as many as the group takes. This call and the next two differ in the writer's own call alone, but with
