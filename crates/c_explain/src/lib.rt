@@ -49,6 +49,7 @@ const NO_STATE: Explanation = Explanation {
 };
 
 // The explanation of a read in the state that a slice holds.
+#[tactic(auto, unfolding(crate::specs::Calls::state_explained), using(numbers::proofs::Tests::tests))]
 fn explain_state(
     state: &[u8],
     group: &[u8],
@@ -66,6 +67,7 @@ fn explain_state(
 }
 
 // Why a read with these arguments refuses. Of the rows only the length is asked; nothing but the explanation is written.
+#[tactic(auto, unfolding(crate::specs::Calls::dds_explain), using(numbers::proofs::Tests::tests))]
 pub fn explain(
     state: &[u8],
     group: &[u8],
