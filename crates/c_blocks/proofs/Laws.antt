@@ -12,27 +12,46 @@ use Rattle.numbers.specs.Numbers.{bytes_of, in_bytes}
 use Rattle.numbers.specs.Store.{put}
 use Rattle.numbers.proofs.Tests.{and}
 use Rattle.answer.specs.Answer.{Told}
-use Rattle.answer.specs.Answer.{Accepted, RefusedAt}
+use Rattle.answer.specs.Answer.{Accepted, RefusedAt, accepted}
+use Rattle.answer.specs.Numbers.{blocks_number}
+use Rattle.answer.specs.declared.refusals.BlocksRefusal.{BlocksRefusal}
+use Rattle.reader.specs.ReaderStart as start
 use Rattle.answer.specs.Answer.{if_accepted}
 use Rattle.reader.specs.declared.Reader.{Reader}
 use Rattle.reader.specs.ReadAnswer.{ReadAnswer}
 use Rattle.reader.specs.ReadAnswer as read
-use Rattle.reader.specs.Answer.{fresh, read_call, told}
-use Rattle.blocks.specs.Answer.{blocks_read_call}
+use Rattle.reader.specs.Answer.{fresh, start_told, read_call, told}
+use Rattle.blocks.specs.Answer.{blocks_start_call, blocks_read_call}
+use Rattle.blocks.proofs.Started.{begun_blocks}
 use Rattle.blocks.specs.Bounds.{unless_other}
 use Rattle.std.specs.Prelude.{Option}
 use Rattle.seek.specs.Find.{find_call}
 use Rattle.slices.specs.Call.{Left, left, answer_length, answer_kept, lengths_kept, of_meaning, called, Tells}
-use Rattle.slices.proofs.Calls.{lengths, stopped, went_on, answered, none_lent}
+use Rattle.slices.proofs.Calls.{lengths, stopped, started, not_started_lem, went_on, answered, none_lent}
 use Rattle.states.specs.States.{reader_length, reader_of, reader_bytes, reader_meant}
 use Rattle.c_reader.specs.Calls.{dds_read}
-use Rattle.c_blocks.specs.Calls.{blocks_length, reader_part, block_part, block_of, dds_blocks_read, find_told, dds_blocks_find}
+use Rattle.c_blocks.specs.Calls.{blocks_length, reader_part, block_part, block_of, dds_blocks_start, dds_blocks_read, find_told, dds_blocks_find}
 use Rattle.c_blocks.specs.ForContracts.{Judges}
 
 -- A fresh state: two numbers over zeros, and the block size over the last.
 pub fresh_bytes : (size first block : ℕ) → put (in_bytes (size ∷ first ∷ replicate 5 0)) 24 (bytes_of 4 block) ≡ reader_bytes (fresh size first) ++ bytes_of 4 block
 unfolding in_bytes bytes_of put
 fresh_bytes size first block = refl
+
+-- A start: with the fresh state and the block size behind it, and refused.
+module _ (size first block : ℕ) (state answer : List ℕ) (kept : lengths_kept (length state) blocks_length (length answer) ≡ true) {told : Told} {state' after : List ℕ} {refusal : ℕ} (tells : Tells told refusal after) where
+  pub start_done : {s : Reader} {begun : List ℕ} → start.Started s ≡ blocks_start_call size first block → told ≡ accepted → begun ≡ in_bytes (s.size ∷ s.next ∷ replicate 5 0)
+      → state' ≡ put begun 24 (bytes_of 4 block) → left refusal (state' ∷ []) after ≡ dds_blocks_start size first block state answer
+  unfolding dds_blocks_start
+  start_done {s} e p b f =
+      started _ _ _ kept (ap start_told (sym e))
+      (f ∙ ap (λ (l : List ℕ). put l 24 (bytes_of 4 block)) (b ∙ ap (λ (r : Reader). in_bytes (r.size ∷ r.next ∷ replicate 5 0)) (begun_blocks _ _ _ _ (sym e)).1.0) ∙ fresh_bytes _ _ _)
+      (rw p at tells)
+
+  pub start_refused : (r : BlocksRefusal) → start.Refused (blocks_number r) ≡ blocks_start_call size first block → told ≡ RefusedAt (blocks_number r) 0 → state' ≡ state
+      → left refusal (state' ∷ []) after ≡ dds_blocks_start size first block state answer
+  unfolding dds_blocks_start
+  start_refused r e p b = rw b (not_started_lem (blocks_number r) _ _ _ kept (ap start_told (sym e)) (rw p at tells))
 
 -- What a read does before the plain call: one law an exit.
 module _ (state group : List ℕ) (number n : ℕ) (rows answer : List ℕ) where

@@ -15,6 +15,7 @@ use answer::{Outcome, Refused, Told};
 const BLOCKS_LENGTH: usize = 28;
 
 // A fresh reader of blocks, into the state slice.
+#[tactic(auto, unfolding(crate::specs::Calls::dds_blocks_start, slices::specs::Call::called), using(slices::proofs::Calls::lengths))]
 pub fn start(size: u32, first: u32, block: u32, state: &mut [u8], answer: &mut [u8]) -> u32
     ensures { left result (state.new ∷ []) answer.new ≡ dds_blocks_start size first block state.old answer.old }
 {
@@ -31,6 +32,7 @@ pub fn start(size: u32, first: u32, block: u32, state: &mut [u8], answer: &mut [
 
 // Whether a read is refused before the plain reader comes to it, or in its stead: the refusal, which is told in the answer
 // slice too. 0 where the plain call on the first bytes of the state is the whole of it; then nothing is written.
+#[tactic(auto, using(slices::proofs::Calls::lengths))]
 fn judge(
     state: &[u8],
     group: &[u8],
@@ -47,8 +49,11 @@ fn judge(
     let first = 0;
     let behind = states::READER_LENGTH;
     let part = &state[first..behind];
+    if !states::reader_meant(part) {
+        return slices::tell(answer, Err(Refusal::State.into()));
+    }
     let block = numbers::number_at(state, behind);
-    if !states::reader_meant(part) || !blocks::is_block_size(block) {
+    if !blocks::is_block_size(block) {
         return slices::tell(answer, Err(Refusal::State.into()));
     }
     let reader = states::reader_of(part);
@@ -65,6 +70,7 @@ fn judge(
 
 // Reads one group: its rows, and the state for the next. Where nothing of the profile refuses it, it is the plain call on the
 // first bytes of the state.
+#[tactic(auto, using(slices::proofs::Calls::lengths))]
 pub fn read(
     state: &mut [u8],
     group: &[u8],
@@ -106,6 +112,7 @@ fn find_told(found: Option<u32>) -> Told<BlocksRefusal>
 }
 
 // Where block b begins, from a group's rows and the number of blocks begun before it.
+#[tactic(auto, unfolding(crate::specs::Calls::dds_blocks_find), using(slices::proofs::Calls::stopped))]
 pub fn find(rows: &[u8], before: u32, b: u32, answer: &mut [u8]) -> u32
     ensures { left result [] answer.new ≡ dds_blocks_find rows.now before b answer.old }
 {

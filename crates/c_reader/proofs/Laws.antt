@@ -1,21 +1,37 @@
--- What a read leaves: one law an exit.
+-- What a start and a read leave: one law an exit.
 -- Assumes nothing.
-use mathlib.Core.Path.{◌≡◌, refl, ◌∙◌}
+use mathlib.Core.Path.{◌≡◌, refl, sym, ap, ◌∙◌}
 use mathlib.Core.Bool.{true, false}
 use mathlib.Core.List.{List, [], ◌∷◌}
 use Prim.Native.Nat.{ℕ, ◌/◌}
-use lib.ListN.{length}
+use lib.ListN.{length, replicate}
 use Rattle.numbers.specs.Numbers.{in_bytes}
-use Rattle.answer.specs.Answer.{RefusedAt}
-use Rattle.answer.specs.Answer.{if_accepted}
+use Rattle.answer.specs.declared.refusals.Refusal.{Refusal}
+use Rattle.answer.specs.Numbers.{refusal_number}
+use Rattle.answer.specs.Answer.{Told, RefusedAt, accepted, if_accepted}
 use Rattle.reader.specs.declared.Reader.{Reader}
 use Rattle.reader.specs.ReadAnswer.{ReadAnswer}
 use Rattle.reader.specs.ReadAnswer as read
-use Rattle.reader.specs.Answer.{told, rows_left, Reads}
+use Rattle.reader.specs.ReaderStart as start
+use Rattle.reader.specs.Answer.{start_told, reader_start_call, told, rows_left, Reads}
+use Rattle.reader.proofs.Accepted.{begun_at}
 use Rattle.slices.specs.Call.{left, lengths_kept, Tells}
-use Rattle.slices.proofs.Calls.{went_on, none_lent, more_lent}
+use Rattle.slices.proofs.Calls.{started, not_started_lem, went_on, none_lent, more_lent}
 use Rattle.states.specs.States.{reader_length, reader_of, reader_meant}
-use Rattle.c_reader.specs.Calls.{state_left, dds_read}
+use Rattle.c_reader.specs.Calls.{dds_reader_start, state_left, dds_read}
+
+-- A start: with the fresh state, and refused.
+module _ (size first : ℕ) (state answer : List ℕ) (kept : lengths_kept (length state) reader_length (length answer) ≡ true) {told : Told} {state' after : List ℕ} {refusal : ℕ} (tells : Tells told refusal after) where
+  pub start_done : {s : Reader} → start.Started s ≡ reader_start_call size first → told ≡ accepted → state' ≡ in_bytes (s.size ∷ s.next ∷ replicate 4 0)
+      → left refusal (state' ∷ []) after ≡ dds_reader_start size first state answer
+  unfolding dds_reader_start
+  start_done {s} e p b =
+      started _ _ _ kept (ap start_told (sym e)) (b ∙ ap (λ (r : Reader). in_bytes (r.size ∷ r.next ∷ replicate 4 0)) (begun_at size first s (sym e)).1) (rw p at tells)
+
+  pub start_refused : (r : Refusal) → start.Refused (refusal_number r) ≡ reader_start_call size first → told ≡ RefusedAt (refusal_number r) 0 → state' ≡ state
+      → left refusal (state' ∷ []) after ≡ dds_reader_start size first state answer
+  unfolding dds_reader_start
+  start_refused r e p b = rw b (not_started_lem (refusal_number r) _ _ _ kept (ap start_told (sym e)) (rw p at tells))
 
 -- What a read leaves by its answer is what a call leaves that tells it.
 state_lent : (a : ReadAnswer) (old : List ℕ) → state_left a old ≡ if_accepted (told a) (state_left a old) old

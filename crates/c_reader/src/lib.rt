@@ -2,7 +2,11 @@
 #![tactic(auto)]
 
 ghost use Rattle.std.specs.Prelude.{◌≡◌, [], ◌∷◌, length};
-ghost use Rattle.reader.specs.ReadAnswer.{Accepted};
+ghost use Rattle.std.specs.Prelude.{Ok};
+ghost use Rattle.answer.specs.Numbers.{refusal_number};
+ghost use Rattle.answer.specs.Results.{told_of};
+ghost use Rattle.reader.specs.declared.Read.TheVariants.{Accepted};
+ghost use Rattle.reader.specs.ReadAnswer.{answer_of};
 ghost use Rattle.reader.specs.Answer.{told};
 ghost use Rattle.slices.specs.Call.{left, answer_length, Tells};
 ghost use Rattle.states.specs.States.{reader_length};
@@ -14,6 +18,7 @@ use answer::{Outcome, Refused, Told};
 use reader::{Read, Reader};
 
 // A fresh reader, into the state slice.
+#[tactic(auto, unfolding(crate::specs::Calls::dds_reader_start, slices::specs::Call::called), using(slices::proofs::Calls::lengths))]
 pub fn start(size: u32, first: u32, state: &mut [u8], answer: &mut [u8]) -> u32
     ensures { left result (state.new ∷ []) answer.new ≡ dds_reader_start size first state.old answer.old }
 {

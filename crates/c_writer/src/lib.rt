@@ -82,7 +82,9 @@ fn finish(state: &mut [u8], answer: &mut [u8], done: Result<Written, Refusal>) -
     slices::tell(answer, told_of(done))
 }
 
-// A record's bytes: whole, or as many as the group takes.
+// A record's bytes: whole, or as many as the group takes. This call and the next two differ in the writer's own call alone, but with that as a
+// closure their code grows, dds_record's from 3,214 to 3,479 bytes, and the contract that it needs is longer than what it saves.
+#[tactic(auto, using(crate::proofs::Laws::long))]
 pub fn record(state: &mut [u8], group: &mut [u8], data: &[u8], warn: u32, answer: &mut [u8]) -> u32
     ensures { left result (state.new ∷ group.new ∷ []) answer.new ≡ dds_record state.old group.old «data».now warn answer.old }
 {
@@ -95,6 +97,7 @@ pub fn record(state: &mut [u8], group: &mut [u8], data: &[u8], warn: u32, answer
 }
 
 // Separator 1 is value 0, Separator 2 is value 1.
+#[tactic(auto, using(crate::proofs::Laws::long))]
 pub fn separator(
     state: &mut [u8],
     group: &mut [u8],
@@ -113,6 +116,7 @@ pub fn separator(
 }
 
 // The end of the run's data.
+#[tactic(auto, using(crate::proofs::Laws::long))]
 pub fn end(state: &mut [u8], group: &mut [u8], warn: u32, answer: &mut [u8]) -> u32
     ensures { left result (state.new ∷ group.new ∷ []) answer.new ≡ dds_end state.old group.old warn answer.old }
 {

@@ -2,16 +2,16 @@
 -- Assumes nothing.
 use mathlib.Core.Path.{◌≡◌, refl, sym, ap, subst, ◌∙◌}
 use mathlib.Core.Logic.{◌⊎◌, inl, inr}
-use mathlib.Core.Bool.{Bool, true, false, cond, ◌&&◌}
+use mathlib.Core.Bool.{Bool, true, false, cond, ◌&&◌, true≢false}
 use mathlib.Core.List.{List, [], ◌∷◌}
 use Prim.Native.Nat.{ℕ, zero, suc, ◌+◌, ◌-◌, ◌≤◌, ◌<◌}
 use native.Mathlib.Nat.{eq-or-lt_of_le}
 use native.Mathlib.Numerals.{add-one, add-two, add-three, add-four}
 use native.Mathlib.Omega.{arith}
-use borrow.Author.Tests.{le-leb, lt-leb, leb-true, eqb-true}
+use borrow.Author.Tests.{eq-eqb, le-leb, lt-leb, leb-true, eqb-true}
 use lib.Dec.{eqb, leb}
-use lib.ListN.{length, get_or, take, drop, length-drop}
-use lib.Seq.{drop-cons, length-take-le, take-take}
+use lib.ListN.{length, get_or, take, drop}
+use lib.Seq.{drop-cons, take_all}
 use Rattle.numbers.proofs.Tests.{both, and}
 use Rattle.radio.specs.Search.{RadioAnswer}
 use Rattle.radio.specs.Search.{Found, Nothing, Refused}
@@ -33,14 +33,12 @@ none_behind received place zero least few = refl
 none_behind received place (suc n) least few =
     rw (le-leb 2 place least, lt-leb (place + 4) (length received) (omega arith)) (none_behind received (suc place) n (omega arith) (omega arith))
 
--- What is compared at a place, where two bytes stand before it and the length byte behind.
-begins : (received : List ℕ) (place : ℕ) → 2 ≤ place → place + 3 < length received → begins_at (take (place + 4 - (place - 2)) (drop (place - 2) received)) 2 ≡ begins_at received place
+-- The comparison at a place, where two bytes stand before it and the length byte behind.
+begins : (received : List ℕ) (place : ℕ) → 2 ≤ place → place + 3 < length received → begins_at received place ≡ alike_bytes (take (place + 3 - (place - 2)) (drop (place - 2) received)) start
 unfolding begins_at
 begins received place least less =
-    let six : place + 4 - (place - 2) ≡ 6 = omega arith in
-    let long : length (take 6 (drop (place - 2) received)) ≡ 6 = length-take-le 6 (drop (place - 2) received) (omega (arith, length-drop (place - 2) received)) in
-    let five : take 5 (take 6 (drop (place - 2) received)) ≡ take 5 (drop (place - 2) received) = take-take 5 6 (drop (place - 2) received) (omega arith) in
-    rw (six, long, five, le-leb 2 place least, le-leb (place + 4) (length received) (omega arith))
+    let five : place + 3 - (place - 2) ≡ 5 = omega arith in
+    rw (five, le-leb 2 place least, le-leb (place + 4) (length received) (omega arith))
 
 -- A loop over the places: the first from here on is the first of all, and a place has room in four bytes.
 pub record Searching (received : List ℕ) (place : ℕ) : Type 0 where
@@ -53,13 +51,13 @@ pub searching : (received : List ℕ) → length received ≤ 4294967295 → Sea
 searching received short = record { short = short; least = omega arith; most = omega arith; same = none_before received (length received) }
 
 module _ (received : List ℕ) (place : ℕ) (r : Bool) (less : place + 3 < length received) (s : Searching received place)
-    (is : r ≡ begins_at (take (place + 4 - (place - 2)) (drop (place - 2) received)) 2) where
+    (is : r ≡ alike_bytes (take (place + 3 - (place - 2)) (drop (place - 2) received)) start) where
   turn : cond r (Found place (place + 3)) (first_from received (place + 1) (length received - (place + 1))) ≡ first_from received 0 (length received)
   unfolding first_from
   turn =
       let rest : length received - place ≡ suc (length received - (place + 1)) = omega arith in
       let all = rw rest at s.same in
-      rw (is ∙ begins received place s.least less, add-one place) (rw (add-one place) at all)
+      rw (is ∙ sym (begins received place s.least less), add-one place) (rw (add-one place) at all)
 
   pub found_here : r ≡ true → Found place (place + 3) ≡ first_from received 0 (length received)
   found_here e = sym (ap (λ (b : Bool). cond b (Found place (place + 3)) (first_from received (place + 1) (length received - (place + 1)))) e) ∙ turn
@@ -91,19 +89,29 @@ five_from : (l : List ℕ) (at : ℕ) → at + 5 ≤ length l
 five_from l at h =
     rw (drop-cons l at 0 (omega arith), drop-cons l (suc at) 0 (omega arith), drop-cons l (suc (suc at)) 0 (omega arith), drop-cons l (suc (suc (suc at))) 0 (omega arith), drop-cons l (suc (suc (suc (suc at)))) 0 (omega arith), add-one at, add-two at, add-three at, add-four at)
 
--- What a place asks of bytes that begin two before it, one by one.
-abbrev pub one_by_one : List ℕ → Bool
-one_by_one l =
-    leb 6 (length l) && (eqb (get_or l 0 0) 0x00 && (eqb (get_or l 1 0) 0x00 && (eqb (get_or l 2 0) 0x00 && (eqb (get_or l 3 0) 0xB2 && (eqb (get_or l 4 0) 0x4D && true)))))
+-- Bytes that are alike are as many.
+alike_long : (a b : List ℕ) → alike_bytes a b ≡ true → length a ≡ length b
+alike_long [] [] e = refl
+alike_long [] (b ∷ bs) e = absurd (true≢false (sym e))
+alike_long (a ∷ as') [] e = absurd (true≢false (sym e))
+alike_long (a ∷ as') (b ∷ bs) e = ap suc (alike_long as' bs (both (eqb a b) (alike_bytes as' bs) e).1)
 
-pub begins_so : (l : List ℕ) → begins_at l 2 ≡ one_by_one l
-unfolding begins_at
-begins_so l = by (leb 6 (length l)) refl
+-- What the start of a message asks of bytes, one by one.
+abbrev pub five_so : List ℕ → Bool
+five_so l = eqb (get_or l 0 0) 0x00 && (eqb (get_or l 1 0) 0x00 && (eqb (get_or l 2 0) 0x00 && (eqb (get_or l 3 0) 0xB2 && (eqb (get_or l 4 0) 0x4D && true))))
+
+pub start_so : (l : List ℕ) → alike_bytes l start ≡ (eqb (length l) 5 && five_so l)
+start_so l = by (eqb (length l) 5) refl
   where
-    by : (b : Bool) → leb 6 (length l) ≡ b → (b && alike_bytes (take 5 (drop 0 l)) start)
-        ≡ (b && (eqb (get_or l 0 0) 0x00 && (eqb (get_or l 1 0) 0x00 && (eqb (get_or l 2 0) 0x00 && (eqb (get_or l 3 0) 0xB2 && (eqb (get_or l 4 0) 0x4D && true))))))
-    by true e = ap (λ (s : List ℕ). alike_bytes s start) (five_from l 0 (omega (arith, leb-true 6 (length l) e)))
-    by false e = refl
+    no : eqb (length l) 5 ≡ false → (b : Bool) → alike_bytes l start ≡ b → b ≡ false
+    no e true f = absurd (true≢false (sym (eq-eqb (length l) 5 (alike_long l start f)) ∙ e))
+    no e false f = refl
+
+    by : (b : Bool) → eqb (length l) 5 ≡ b → alike_bytes l start ≡ (b && five_so l)
+    by true e =
+        let long : length l ≡ 5 = eqb-true (length l) 5 e in
+        ap (λ (s : List ℕ). alike_bytes s start) (sym (take_all 5 l (omega arith)) ∙ five_from l 0 (omega arith))
+    by false e = no e (alike_bytes l start) refl
 
 -- Five bytes that are the start of a message.
 record Five (l : List ℕ) (at : ℕ) : Type 0 where

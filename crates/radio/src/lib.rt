@@ -31,7 +31,7 @@ impl Radio {
             return Err(LoaderRefusal::Length);
         }
         for place in 2..received.len().saturating_sub(3) {
-            if search::begins(&received[place - 2..place + 4]) {
+            if search::is_start(&received[place - 2..place + 3]) {
                 return Ok(Some(Found {
                     place: place as u32,
                     length_at: place as u32 + 3,

@@ -35,8 +35,5 @@ fn beginning_among(rows: &[u8], b: u32) -> Option<u32>
 pub fn find(rows: &[u8], before: u32, b: u32) -> Option<u32>
     ensures { result ≡ find_call rows.now before b }
 {
-    if b < before {
-        return None;
-    }
-    beginning_among(rows, b - before)
+    beginning_among(rows, b.checked_sub(before)?)
 }

@@ -1,57 +1,25 @@
 -- `start` meets its contract: a length, or what the start answers. Assumes nothing.
-use mathlib.Core.Path.{◌≡◌, sym, ap, ◌∙◌}
+use mathlib.Core.Path.{◌≡◌, ◌∙◌}
 use mathlib.Core.Bool.{true}
-use mathlib.Core.List.{List, ◌∷◌}
-use Prim.Native.Nat.{ℕ}
-use native.Mathlib.Omega.{arith}
-use lib.ListN.{length, replicate}
-use Rattle.numbers.specs.Numbers.{bytes_of, in_bytes}
-use Rattle.numbers.specs.Store.{put}
-use Rattle.numbers.proofs.Tests.{fails, holds}
-use Rattle.reader.specs.declared.Reader.{Reader}
-use Rattle.reader.specs.ReaderStart.{ReaderStart}
-use Rattle.reader.specs.Answer.{start_told}
-use Rattle.blocks.proofs.Started.{begun_blocks}
-use Rattle.slices.specs.Call.{answer_length, lengths_kept}
-use Rattle.slices.proofs.Calls as calls
-use Rattle.c_blocks.specs.Calls.{blocks_length, dds_blocks_start}
-use Rattle.c_blocks.proofs.Laws.{fresh_bytes}
-use Rattle.c_blocks.proofs.start.Goals.{Else-not-lengths_kept}
+use lib.ListN.{length}
+use Rattle.numbers.proofs.Tests.{holds}
+use Rattle.answer.specs.Numbers.{blocks_number}
+use Rattle.slices.specs.Call.{lengths_kept}
+use Rattle.slices.proofs.Calls.{lengths}
+use Rattle.c_blocks.specs.Calls.{blocks_length}
+use Rattle.c_blocks.proofs.Laws.{start_done, start_refused}
+use Rattle.c_blocks.proofs.start.Goals.{in-Ok, in_default}
 use Rattle.c_blocks.proofs.start.Goals as goal
 
--- The slices are of their lengths.
-kept : (c : Else-not-lengths_kept) → lengths_kept (length c.args.state.now) blocks_length (length c.args.answer.now) ≡ true
-kept c = holds c.lengths_kept.ensures c.if-not-lengths_kept.false
-
-long : (c : Else-not-lengths_kept) → (length c.args.state.now ≡ blocks_length) × (length c.args.answer.now ≡ answer_length)
-long c = calls.lengths _ _ _ (kept c)
-
-pub returns-then-not-lengths_kept : goal.returns-then-not-lengths_kept
-unfolding dds_blocks_start
-returns-then-not-lengths_kept c = calls.stopped _ _ _ _ (fails c.lengths_kept.ensures c.if-not-lengths_kept.true)
-
-pub returns-in-Started : goal.returns-in-Started
-unfolding dds_blocks_start
-returns-in-Started c =
-    let e = sym c.start-start.ensures ∙ c.in-Started.is in
-    let bytes = c.put_number.ensures
-    ∙ ap (λ (l : List ℕ). put l 24 (bytes_of 4 c.args.block)) (c.begin.ensures 5 (long (goal.at.returns-in-Started c).Else-not-lengths_kept).0 ∙ ap (λ (r : Reader). in_bytes (r.size ∷ r.next ∷ replicate 5 0)) (begun_blocks _ _ _ _ e).1.0)
-    ∙ fresh_bytes _ _ _ in
-    calls.started _ _ _ (kept (goal.at.returns-in-Started c).Else-not-lengths_kept) (ap (λ (a : ReaderStart). start_told a) e) bytes c.tell.ensures
-
-pub returns-in-Refused : goal.returns-in-Refused
-unfolding dds_blocks_start
-returns-in-Refused c =
-    calls.not_started_lem _ _ _ _ (kept (goal.at.returns-in-Refused c).Else-not-lengths_kept) (ap (λ (a : ReaderStart). start_told a) (sym c.start-start.ensures ∙ c.in-Refused.is)) c.tell-in-Refused.ensures
-
-pub begin-requires : goal.begin-requires
-begin-requires c = omega (arith, (long (goal.at.begin-requires c).Else-not-lengths_kept).0)
-
-pub put_number-requires : goal.put_number-requires
-put_number-requires c = omega (arith, (long (goal.at.put_number-requires c).Else-not-lengths_kept).0)
-
-pub tell-requires : goal.tell-requires
-tell-requires c = (long (goal.at.tell-requires c).Else-not-lengths_kept).1
-
-pub tell-requires-in-Refused : goal.tell-requires-in-Refused
-tell-requires-in-Refused c = (long (goal.at.tell-requires-in-Refused c).Else-not-lengths_kept).1
+pub returns : goal.returns
+returns c =
+    let a = c.args in
+    let kept : lengths_kept (length a.state.now) blocks_length (length a.answer.now) ≡ true = holds c.lengths_kept.ensures c.if-not-lengths_kept.false in
+    let is = c.start-started.ensures in
+    let said = c.plainly_told.ensures blocks_number in
+    elim c.match-started.branch [
+      | in-Ok w ↦
+          start_done a.size a.first a.block _ _ kept c.tell.ensures (rw w.in-Ok.is at is) (rw w.started-is at said) (w.begin.ensures 5 (lengths _ _ _ kept).0) (w.state-is ∙ w.put_number.ensures)
+      | in_default w ↦
+          start_refused a.size a.first a.block _ _ kept c.tell.ensures w.in_default.field-0 (rw w.in_default.is at is) (rw (w.started-is, w.in_default.is) at said) w.state-is
+    ]

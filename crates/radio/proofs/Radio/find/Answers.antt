@@ -10,14 +10,14 @@ returns-then-received-gt-LONGEST c = find_refused _ c.if-received-gt-LONGEST.tru
 pub loop-place-init : goal.loop-place-init
 loop-place-init c = searching _ c.if-received-gt-LONGEST.false
 
-pub returns-then-begins : goal.returns-then-begins
-returns-then-begins c =
+pub returns-then-is_start : goal.returns-then-is_start
+returns-then-is_start c =
     let s = c.loop-place.invariant in
-    found_here _ c.loop-place.place _ (omega (arith, c.saturating_sub-place-end.ensures)) s c.begins.ensures c.if-begins.true ∙ find_first _ s.short
+    found_here _ c.loop-place.place _ (omega (arith, c.saturating_sub-place-end.ensures)) s c.is_start.ensures c.if-is_start.true ∙ find_first _ s.short
 
 pub loop-place-preserved : goal.loop-place-preserved
 loop-place-preserved c =
-    not_here _ c.loop-place.place _ (omega (arith, c.saturating_sub-place-end.ensures)) c.loop-place.invariant c.begins.ensures c.if-begins.false
+    not_here _ c.loop-place.place _ (omega (arith, c.saturating_sub-place-end.ensures)) c.loop-place.invariant c.is_start.ensures c.if-is_start.false
 
 pub returns : goal.returns
 returns c =
