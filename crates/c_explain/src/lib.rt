@@ -1,10 +1,8 @@
 // Why a read refuses, from C: seven numbers of eight bytes.
 #![tactic(auto)]
 
-ghost use Rattle.explain.specs.Explanation.{explanation_of};
 ghost use Rattle.std.specs.Prelude.{◌≡◌, length};
-ghost use Rattle.reasons.specs.Reasons.{no_reason};
-ghost use Rattle.explain.specs.Explanation.{explanation};
+ghost use Rattle.explain.specs.Explanation.{explanation_of};
 ghost use Rattle.c_explain.specs.Calls.{explanation_length, explains, tells, state_explained, dds_explain};
 
 use answer::refusals::{Numbered, Refusal};
