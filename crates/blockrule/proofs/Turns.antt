@@ -17,13 +17,7 @@ use Rattle.blockrule.specs.Bounds.{other_at}
 abbrev pub other_left : (block size n : ℕ) (group : List ℕ) (left : ℕ) → Option ℕ
 other_left block size n group left = other_at block (entries_below group (entry_offset size n + 4 * left) left) (n + 1 - left)
 
--- With all of them left it is the first of the group, and with none there is none.
-pub all_left : (block size n : ℕ) (group : List ℕ) → 32 + 4 * n ≤ size → other_left block size n group n ≡ other_at block (entries_below group (size - 32) n) 1
-all_left block size n group h =
-    let top : entry_offset size n + 4 * n ≡ size - 32 = omega arith in
-    let first : n + 1 - n ≡ 1 = omega arith in
-    rw (top, first)
-
+-- With none left there is none.
 pub none_left : (block size n : ℕ) (group : List ℕ) (left : ℕ) → left ≡ 0 → None ≡ other_left block size n group left
 unfolding other_at entries_below
 none_left block size n group left e = rw e

@@ -1,4 +1,3 @@
--- The laws of the call that explains, and the theorems.
-pub mod Laws
+-- The theorems of the call that explains, and explanations worked out by hand.
 pub mod Theorems
 pub mod Worked

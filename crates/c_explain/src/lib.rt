@@ -1,10 +1,8 @@
 // Why a read refuses, from C: seven numbers of eight bytes.
 #![tactic(auto)]
 
-ghost use Rattle.explain.specs.Explanation.{explanation_of};
 ghost use Rattle.std.specs.Prelude.{◌≡◌, length};
-ghost use Rattle.reasons.specs.Reasons.{no_reason};
-ghost use Rattle.explain.specs.Explanation.{explanation};
+ghost use Rattle.explain.specs.Explanation.{explanation_of};
 ghost use Rattle.c_explain.specs.Calls.{explanation_length, explains, tells, state_explained, dds_explain};
 
 use answer::refusals::{Numbered, Refusal};
@@ -49,6 +47,7 @@ const NO_STATE: Explanation = Explanation {
 };
 
 // The explanation of a read in the state that a slice holds.
+#[tactic(auto, unfolding(crate::specs::Calls::state_explained), using(numbers::proofs::Tests::tests))]
 fn explain_state(
     state: &[u8],
     group: &[u8],
@@ -66,6 +65,7 @@ fn explain_state(
 }
 
 // Why a read with these arguments refuses. Of the rows only the length is asked; nothing but the explanation is written.
+#[tactic(auto, unfolding(crate::specs::Calls::dds_explain), using(numbers::proofs::Tests::tests))]
 pub fn explain(
     state: &[u8],
     group: &[u8],

@@ -2,10 +2,9 @@
 // public requires nothing.
 #![tactic(auto)]
 
-ghost use Rattle.explain.specs.Explanation.{explanation_of};
 ghost use Rattle.std.specs.Prelude.{◌≡◌};
 ghost use Rattle.reader.specs.Answer.{is_repeat};
-ghost use Rattle.explain.specs.Explanation.{no_refusal, explained};
+ghost use Rattle.explain.specs.Explanation.{explanation_of, explained};
 
 use answer::refusals::Refusal;
 use finding::{call, entries};

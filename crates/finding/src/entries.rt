@@ -2,8 +2,7 @@
 ghost use Rattle.std.specs.Prelude.{◌≡◌};
 ghost use Rattle.answer.specs.Numbers.{refusal_number};
 ghost use Rattle.group.specs.Sizes.{entry_offset};
-ghost use Rattle.group.specs.Flags.{b4_of};
-ghost use Rattle.reasons.specs.Reasons.{b4_found, stop, entry_reason};
+ghost use Rattle.reasons.specs.Reasons.{stop, entry_reason};
 
 use crate::kinds;
 use answer::refusals::Refusal;

@@ -1,5 +1,5 @@
 // What is told of kinds: which are permitted at a stand, the kind found, and what the sum leaves it.
-ghost use Rattle.std.specs.Prelude.{◌≡◌, ◌-◌, true};
+ghost use Rattle.std.specs.Prelude.{◌≡◌, true};
 ghost use Rattle.group.specs.Flags.{meaning_of};
 ghost use Rattle.reasons.specs.Reasons.{permitted, leaves, kind_found, leaves_it};
 
