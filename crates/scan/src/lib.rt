@@ -27,9 +27,10 @@ pub fn scan_entries(group: &[u8], size: u32, entries: u32, opening: Cursor) -> R
         let stretch = singles::pass(group, size, entries, left, here);
         left = stretch.left;
         here = Cursor {
+            stand: here.stand,
+            warned: here.warned,
             sum: stretch.sum,
             reached: stretch.reached,
-            ..here
         };
         if singles::ends(group, size, entries, left, here) {
             break Ok(here);
