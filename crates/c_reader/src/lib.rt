@@ -50,8 +50,7 @@ fn finish(state: &mut [u8], answer: &mut [u8], done: Result<Read, Refused<Refusa
             };
             slices::tell::<Refusal>(answer, Ok(repeated))
         }
-        // Told part by part: handed on whole, it is 53 bytes of code more.
-        Err(Refused { refusal, place }) => slices::tell(answer, Err(Refused { refusal, place })),
+        Err(refused) => slices::tell(answer, Err(refused)),
     }
 }
 

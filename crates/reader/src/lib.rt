@@ -112,10 +112,8 @@ impl Reader {
             return Err(Refused::from(refusal));
         }
         let opening = ends::opening(self);
-        match scan::scan_entries(group, group.len() as u32, entries, opening) {
-            Ok(cursor) => Ok(Read::Accepted(ends::closing(self, cursor))),
-            Err(stop) => Err(Refused::from(stop)),
-        }
+        let cursor = scan::scan_entries(group, group.len() as u32, entries, opening)?;
+        Ok(Read::Accepted(ends::closing(self, cursor)))
     }
 
     // Reads one group: the rows are filled once its last entry has passed.
@@ -135,8 +133,7 @@ impl Reader {
         Ok(read)
     }
 
-    // The same, with rows lent as bytes, twelve an entry, as C lends them. A read's answer goes on as it came, here and in `judge`: by `?`
-    // the compiler packs a refusal with its place, and takes it apart byte by byte, in 58 bytes of code.
+    // The same, with rows lent as bytes, twelve an entry, as C lends them.
     pub fn read_bytes(
         self,
         group: &[u8],
@@ -146,12 +143,10 @@ impl Reader {
     ) -> Result<Read, Refused<Refusal>>
         ensures { Reads in_bytes self group.now number entries (length rows.old / 4) rows.old (answer_of self result) rows.new }
     {
-        let answer = self.judge(group, number, entries, rows.len() / 4);
-        if let Ok(read) = answer {
-            if let Read::Accepted(_) = read {
-                rows::bytes::fill_bytes(group, group.len() as u32, entries, rows);
-            }
+        let read = self.judge(group, number, entries, rows.len() / 4)?;
+        if let Read::Accepted(_) = read {
+            rows::bytes::fill_bytes(group, group.len() as u32, entries, rows);
         }
-        answer
+        Ok(read)
     }
 }

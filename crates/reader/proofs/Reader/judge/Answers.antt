@@ -7,6 +7,7 @@ use native.Mathlib.Omega.{arith}
 use borrow.Author.Tests.{eqb-true, eqb-false}
 use lib.Dec.{eqb}
 use lib.ListN.{length}
+use Rattle.std.proofs.lemmas.Result.{err_from_is_err_and}
 use Rattle.answer.specs.Numbers.{refusal_number}
 use Rattle.answer.specs.NotZero.{refusal_not_zero}
 use Rattle.group.specs.Sizes.{information_length, entry_offset}
@@ -56,13 +57,15 @@ pub scan_entries-requires : goal.scan_entries-requires
 scan_entries-requires c =
     let r = ready _ _ _ _ _ (sym c.in_default.ensures) in (rw r.long (cut r), rw (r.long, c.opening-opening.ensures) (begins r))
 
-pub returns-in-Err-scan_entries : goal.returns-in-Err-scan_entries
-returns-in-Err-scan_entries c = rw c.from-in-Err-scan_entries.ensures (scanned _ _ _ _ _ _ _ (sym c.in_default.ensures) c.opening-opening.ensures c.in-Err-scan_entries.ensures)
+pub returns-in_err-cursor : goal.returns-in_err-cursor
+returns-in_err-cursor c =
+    let p = err_from_is_err_and c.from_residual.result c.from_residual.ensures.1 in
+    rw (p.1, p.2) (scanned _ _ _ _ _ _ _ (sym c.in_default.ensures) c.opening-opening.ensures c.in_err-cursor.ensures)
 
 pub closing-requires : goal.closing-requires
 closing-requires c = let r = ready _ _ _ _ _ (sym c.in_default.ensures) in omega (arith, r.next, r.numbered)
 
-pub returns-in-Ok : goal.returns-in-Ok
-returns-in-Ok c =
+pub returns : goal.returns
+returns c =
     ap answer.Accepted c.closing.ensures
-    ∙ scanned _ _ _ _ _ _ _ (sym c.in_default.ensures) c.opening-opening.ensures c.in-Ok.ensures
+    ∙ scanned _ _ _ _ _ _ _ (sym c.in_default.ensures) c.opening-opening.ensures c.in_ok-cursor.ensures

@@ -25,21 +25,21 @@ open_to : (s t : Reader) (r : Read) (group : List ℕ) (number n room : ℕ) →
 open_to s t r group number n room e is = (accepted _ _ _ _ _ _ (passed s t r group number n room e is)).ready
 
 pub fill_bytes-requires-clause-cut : goal.fill_bytes-requires-clause-cut
-fill_bytes-requires-clause-cut c = let r = open_to _ _ _ _ _ _ _ c.in-Ok.ensures c.in-Accepted.is in rw r.long (cut r)
+fill_bytes-requires-clause-cut c = let r = open_to _ _ _ _ _ _ _ c.in_ok-read.ensures c.in-Accepted.is in rw r.long (cut r)
 
 pub fill_bytes-requires-clause-within : goal.fill_bytes-requires-clause-within
 fill_bytes-requires-clause-within c =
-    let r = open_to _ _ _ _ _ _ _ c.in-Ok.ensures c.in-Accepted.is in
-    rw r.long (data_within_lem _ _ _ _ _ _ (passed _ _ _ _ _ _ _ c.in-Ok.ensures c.in-Accepted.is))
+    let r = open_to _ _ _ _ _ _ _ c.in_ok-read.ensures c.in-Accepted.is in
+    rw r.long (data_within_lem _ _ _ _ _ _ (passed _ _ _ _ _ _ _ c.in_ok-read.ensures c.in-Accepted.is))
 
 pub fill_bytes-requires-clause-entries_in_bounds : goal.fill_bytes-requires-clause-entries_in_bounds
-fill_bytes-requires-clause-entries_in_bounds c = let r = open_to _ _ _ _ _ _ _ c.in-Ok.ensures c.in-Accepted.is in omega (arith, r.rows)
+fill_bytes-requires-clause-entries_in_bounds c = let r = open_to _ _ _ _ _ _ _ c.in_ok-read.ensures c.in-Accepted.is in omega (arith, r.rows)
 
 pub returns-in-Accepted : goal.returns-in-Accepted
 unfolding group_rows
 returns-in-Accepted c =
-    let r = open_to _ _ _ _ _ _ _ c.in-Ok.ensures c.in-Accepted.is in
-    record { answer = c.in-Ok.ensures; rows_left = rw (c.in-Accepted.is, ← r.long) c.fill_bytes.ensures }
+    let r = open_to _ _ _ _ _ _ _ c.in_ok-read.ensures c.in-Accepted.is in
+    record { answer = c.in_ok-read.ensures; rows_left = rw (c.in-Accepted.is, ← r.long) c.fill_bytes.ensures }
 
 pub overflow_cast-group : goal.overflow_cast-group
-overflow_cast-group c = let r = open_to _ _ _ _ _ _ _ c.in-Ok.ensures c.in-Accepted.is in omega (arith, r.long, r.run.most)
+overflow_cast-group c = let r = open_to _ _ _ _ _ _ _ c.in_ok-read.ensures c.in-Accepted.is in omega (arith, r.long, r.run.most)
