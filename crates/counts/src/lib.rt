@@ -25,7 +25,7 @@ fn part_fault(count: u32, parts: u32, most: u32) -> Result<(), Refusal>
     Ok(())
 }
 
-// 19 to 22, each asked by itself: by a match over the kinds a read takes 72 bytes of code more, and it may take 1,905.
+// 19 to 22, each asked by itself: by a match over the kinds a read takes 71 bytes of code more, and it may take 1,905.
 pub fn count_fault(kind: Kind, sum: u32, count: u32) -> Result<(), Refusal>
     requires { (sum ≤ longest_record) × (count ≤ longest_record) }
     ensures { number_of refusal_number result ≡ count_fault kind sum count }
