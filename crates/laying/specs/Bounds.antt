@@ -33,6 +33,7 @@ pub record Ready (s : Writer) (g : List ℕ) : Type 0 where
 
 -- What n more bytes of an open record ask.
 pub record Opened (s : Writer) (n : ℕ) : Type 0 where
+  pub low : least_size ≤ s.size
   pub next : s.next ≤ last_number
   pub filled : s.filled ≡ 0
   pub entries : s.entries ≡ 0

@@ -3,6 +3,8 @@
 #![tactic(auto)]
 
 pub mod desk;
+pub mod lay;
+pub mod room;
 
 ghost use Rattle.answer.specs.Numbers.{refusal_number};
 ghost use Rattle.laying.specs.WriterStart.{start_of};

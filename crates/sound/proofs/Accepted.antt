@@ -85,6 +85,7 @@ opened {s} {w} {g} {n} o p grown sum =
     let more = t.more (ap is_inside p) in
     let all = o.rest (ap is_inside p) in
     record {
+      low = omega (arith, t.run);
       next = omega (arith, o.accepted);
       filled = omega arith;
       entries = omega arith;
