@@ -4,7 +4,7 @@
 use mathlib.Core.Path.{◌≡◌, sym, ap, ◌∙◌}
 use mathlib.Core.List.{List}
 use Prim.Native.Nat.{ℕ}
-use Rattle.std.specs.Prelude.{Result, Ok}
+use Rattle.std.specs.Prelude.{Result}
 use Rattle.answer.specs.declared.refusals.LoaderRefusal.{LoaderRefusal}
 use Rattle.answer.specs.Answer.{if_accepted}
 use Rattle.answer.proofs.Once.{OneToOne, loader_once, result_once, same_result}

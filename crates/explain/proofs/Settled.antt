@@ -22,10 +22,10 @@ explanation_once None (Some y) e = let zero : 0 ≡ refusal_number y.refusal = a
 explanation_once (Some x) None e = let zero : refusal_number x.refusal ≡ 0 = ap (λ (x : Explanation). x.refusal) e in cc (refusal_not_zero x.refusal)
 explanation_once (Some x) (Some y) e =
     λ i. Some (record {
-        refusal = refusal_once x.refusal y.refusal (ap (λ (x : Explanation). x.refusal) e) i;
-        place = (e i).place;
-        offset = (e i).offset;
-        why = (e i).why;
+      refusal = refusal_once x.refusal y.refusal (ap (λ (x : Explanation). x.refusal) e) i;
+      place = (e i).place;
+      offset = (e i).offset;
+      why = (e i).why;
     })
 
 pub explanation_result_settled : (s : Reader) (group : List ℕ) (number n bytes : ℕ) (a b : Option declared.Explanation)

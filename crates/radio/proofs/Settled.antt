@@ -25,6 +25,7 @@ answered_once = result_once answered found_once (λ r t e. loader_once r t (cc))
     found_once None (Some y) e = cc
     found_once (Some x) None e = cc
     found_once (Some x) (Some y) e = let f : x ≡ y = same_found x y (cc) (cc) in cc
+
     apart : (x : Option Found) (r : LoaderRefusal) → answered (Ok x) ≡ answered (Err r) → ⊥
     apart None r e = cc
     apart (Some x) r e = cc

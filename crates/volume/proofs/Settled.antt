@@ -38,6 +38,7 @@ answered_once = result_once answered type_once (λ r t e. loader_once r t (cc)) 
     type_once A B e = cc
     type_once B A e = cc
     type_once B B e = refl
+
     apart : (x : TapeType) (r : LoaderRefusal) → answered (Ok x) ≡ answered (Err r) → ⊥
     apart A r e = cc
     apart B r e = cc
