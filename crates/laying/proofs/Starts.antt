@@ -1,4 +1,4 @@
--- What a start's own answer tells, and that its contract settles it.
+-- What a start's own answer tells, and that its contract settles it and the code's result.
 -- Assumes nothing.
 use mathlib.Core.Path.{◌≡◌, refl, sym, ◌∙◌}
 use mathlib.Core.Bool.{Bool, true, false, cond}
@@ -6,9 +6,14 @@ use Prim.Native.Nat.{ℕ}
 use native.Mathlib.Omega.{arith}
 use borrow.Author.Tests.{eqb-true}
 use lib.Dec.{eqb}
+use Rattle.std.specs.Prelude.{Result}
+use Rattle.answer.specs.declared.refusals.Refusal.{Refusal}
+use Rattle.answer.specs.Numbers.{refusal_number}
+use Rattle.answer.proofs.Once.{OneToOne, refusal_once, result_once}
 use Rattle.group.specs.State.{start_refusal}
 use Rattle.laying.specs.declared.Writer.{Writer}
 use Rattle.laying.specs.WriterStart.{WriterStart}
+use Rattle.laying.specs.WriterStart.{start_of}
 use Rattle.laying.specs.WriterStart as start
 use Rattle.laying.specs.Start.{fresh_state, writer_start_call}
 
@@ -25,3 +30,11 @@ begun_at size first s e = by (eqb (start_refusal size first) 0) refl e
 -- Two answers that meet its contract coincide.
 pub start_settled : (size first : ℕ) {r t : WriterStart} → r ≡ writer_start_call size first → t ≡ writer_start_call size first → r ≡ t
 start_settled size first e f = e ∙ sym f
+
+-- So do two results of the code: what a start answers tells them apart.
+start_once : OneToOne (start_of refusal_number)
+start_once = result_once (start_of refusal_number) (λ x y e. cc) (λ r t e. refusal_once r t (cc)) (λ x r e. cc)
+
+pub start_result_settled : (size first : ℕ) (a b : Result Writer Refusal)
+    → start_of refusal_number a ≡ writer_start_call size first → start_of refusal_number b ≡ writer_start_call size first → a ≡ b
+start_result_settled size first a b e f = start_once a b (start_settled size first e f)
