@@ -19,7 +19,7 @@ fn next_reason(next: u32, number: u32) -> Reason
 
 // In a state of this size and next number.
 #[tactic(auto, unfolding(reasons::specs::Reasons::call_reason))]
-pub fn reason_of(
+pub fn reason_of_call(
     refusal: Refusal,
     size: u32,
     next: u32,
@@ -57,7 +57,7 @@ pub fn call_reason(
     ensures { result ≡ call_reason refusal size next length number entries rows }
 {
     match Refusal::try_from(refusal) {
-        Ok(refusal) => reason_of(refusal, size, next, length, number, entries, rows),
+        Ok(refusal) => reason_of_call(refusal, size, next, length, number, entries, rows),
         Err(_) => Reason::none(),
     }
 }

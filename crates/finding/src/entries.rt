@@ -23,7 +23,7 @@ pub fn entry_offset(size: u32, place: u32) -> u32
 
 // By the rule that entry k of n breaks, where the scan has come to `here`.
 #[tactic(auto, unfolding(reasons::specs::Reasons::entry_reason))]
-pub fn reason_of(
+pub fn reason_at_entry(
     refusal: Refusal,
     size: u32,
     entries: u32,
@@ -75,7 +75,7 @@ pub fn entry_reason(
     ensures { result ≡ entry_reason refusal (stop size entries place here) entry }
 {
     match Refusal::try_from(refusal) {
-        Ok(refusal) => reason_of(refusal, size, entries, place, here, entry),
+        Ok(refusal) => reason_at_entry(refusal, size, entries, place, here, entry),
         Err(_) => Reason::none(),
     }
 }
