@@ -2,6 +2,7 @@
 ghost use Rattle.std.specs.Prelude.{◌≡◌, ℕ, false, eqb};
 ghost use Rattle.answer.specs.Numbers.{refusal_number, track_number, third_number, loader_number, blocks_number};
 ghost use Rattle.answer.specs.NotZero.{refusal_not_zero, track_not_zero, third_not_zero, loader_not_zero, blocks_not_zero};
+ghost use Rattle.answer.specs.Tried.{RefusalTried};
 
 // A refusal has a number, which is not 0: that is told of an accepted call.
 pub trait Numbered: Copy {
@@ -49,6 +50,47 @@ impl Numbered for Refusal {
 
     fn number(self) -> u32 {
         self as u32
+    }
+}
+
+// A number that no refusal of groups has.
+#[derive(Clone, Copy, Debug, PartialEq, Eq)]
+pub struct NoRefusal(pub u32);
+
+// The refusal of groups that has a number.
+impl TryFrom<u32> for Refusal {
+    type Error = NoRefusal;
+
+    ghost try_from_gives = { RefusalTried };
+
+    fn try_from(number: u32) -> Result<Refusal, NoRefusal> {
+        match number {
+            1 => Ok(Refusal::State),
+            2 => Ok(Refusal::Size),
+            3 => Ok(Refusal::First),
+            4 => Ok(Refusal::Group),
+            5 => Ok(Refusal::Number),
+            6 => Ok(Refusal::Entries),
+            7 => Ok(Refusal::Rows),
+            8 => Ok(Refusal::Flag),
+            9 => Ok(Refusal::B4),
+            10 => Ok(Refusal::Follow),
+            11 => Ok(Refusal::Count),
+            12 => Ok(Refusal::Room),
+            13 => Ok(Refusal::Skip),
+            14 => Ok(Refusal::NoNumber),
+            15 => Ok(Refusal::RecordLength),
+            16 => Ok(Refusal::Rest),
+            17 => Ok(Refusal::Open),
+            18 => Ok(Refusal::Separator),
+            19 => Ok(Refusal::ZeroPart),
+            20 => Ok(Refusal::AboveOne),
+            21 => Ok(Refusal::TooLong),
+            22 => Ok(Refusal::TotalDiffers),
+            23 => Ok(Refusal::OwedEarly),
+            24 => Ok(Refusal::Explanation),
+            _ => Err(NoRefusal(number)),
+        }
     }
 }
 

@@ -3,7 +3,7 @@
 use mathlib.Core.Path.{◌≡◌, refl, sym, ap, ◌∙◌}
 use mathlib.Core.Bool.{Bool, true, false}
 use mathlib.Core.List.{List, ◌++◌}
-use Prim.Native.Nat.{ℕ, ◌-◌, ◌≤◌}
+use Prim.Native.Nat.{ℕ, ◌+◌, ◌-◌, ◌≤◌}
 use native.Mathlib.Omega.{arith}
 use borrow.Author.Tests.{eq-eqb, ne_eqb}
 use lib.Dec.{eqb}
@@ -11,6 +11,8 @@ use lib.ListN.{length, take, drop, replicate, length-append, length-drop}
 use lib.Seq.{length-take-le}
 use Rattle.std.proofs.lemmas.List.{append_assoc, append-nil, take_at, drop_at, take_all, drop_all, take_rest}
 use borrow.Rule.Slice.PartMut.{put_mid}
+use Rattle.numbers.specs.Store.{put}
+use Rattle.numbers.proofs.Stores.{put_part}
 use Rattle.header.specs.Header.{header_of}
 use Rattle.header.proofs.TakenApart.{length_header}
 use Rattle.block.specs.Block.{close_of, data_part_of, block_of}
@@ -32,6 +34,13 @@ pub length_block : (area pack block : ℕ) (places : List ℕ) → length places
 unfolding block_of
 length_block area pack block places h =
     length-append (header_of area pack block) (data_part_of pack places) ∙ omega (arith, length_header area pack block, length_data_part pack places h)
+
+-- A block written over a part of a list is a store.
+pub block_put : (old : List ℕ) (at area pack block : ℕ) (places : List ℕ) → at + 35 ≤ length old → length places ≡ 32
+    → put_mid at (at + 35 - at) old (block_of area pack block places) ≡ put old at (block_of area pack block places)
+block_put old at area pack block places h p =
+    let long = length_block area pack block places p in
+    put_part old at (at + 35 - at) (block_of area pack block places) (omega (arith, long)) (omega (arith, long))
 
 -- What stands at a block's close is all that follows its items.
 pub close_at : (block : List ℕ) → length block ≡ 35 → take 8 (drop 27 block) ≡ drop 27 block

@@ -2,7 +2,8 @@
 // change request 2026-01.
 #![tactic(auto)]
 
-ghost use Rattle.std.specs.Prelude.{◌≡◌, length};
+ghost use Rattle.std.specs.Prelude.{◌≡◌, ◌+◌, ◌<◌, ◌≤◌, length};
+ghost use Rattle.numbers.specs.Store.{put};
 ghost use Rattle.answer.specs.Numbers.{track_number};
 ghost use Rattle.answer.specs.Results.{number_of};
 ghost use Rattle.block.specs.Block.{block_length, data_part_length, block_of};
@@ -16,6 +17,14 @@ pub const LENGTH: usize = 35;
 
 pub const DATA_PART_LENGTH: usize = 32;
 
+// The length of a Pack Item, and of a close.
+pub const ITEM_LENGTH: usize = 8;
+
+// The length of the three Pack Items, and where the close begins behind them and the header.
+const ITEMS_LENGTH: usize = 3 * ITEM_LENGTH;
+
+const CLOSE: usize = 3 + ITEMS_LENGTH;
+
 // One block: 3 bytes of header, 24 of items and 8 of close, from the four places that are lent. With Pack ID 6 it closes in
 // zeros, whatever was lent. `block` is a slice and no array, since proofs do not know what is written through `as_chunks_mut`.
 pub fn put_block(block: &mut [u8], header: Header, places: &[u8; DATA_PART_LENGTH])
@@ -23,11 +32,27 @@ pub fn put_block(block: &mut [u8], header: Header, places: &[u8; DATA_PART_LENGT
     ensures { block.new ≡ block_of header.area header.pack header.block places.now }
 {
     block[..3].copy_from_slice(&header.bytes());
-    block[3..27].copy_from_slice(&places[..24]);
+    block[3..CLOSE].copy_from_slice(&places[..ITEMS_LENGTH]);
     if header.pack == 6 {
-        block[27..].fill(0);
+        block[CLOSE..].fill(0);
     } else {
-        block[27..].copy_from_slice(&places[24..]);
+        block[CLOSE..].copy_from_slice(&places[ITEMS_LENGTH..]);
+    }
+}
+
+// One block from index `at` on, from the four places that are lent.
+#[tactic(auto, using(crate::proofs::BlockLaws::block_put))]
+pub fn put_block_at(track: &mut [u8], at: usize, area: u32, pack: u8, block: u8, places: &[u8])
+    requires block_length_in_bounds { (at + block_length ≤ length track.old) × (length places.now ≡ data_part_length) }
+    requires area_bound { (area < 16) × ((pack < 8) × (block < 16)) }
+    ensures { track.new ≡ put track.old at (block_of area pack block places.now) }
+{
+    if let Some(places) = places.as_array() {
+        put_block(
+            &mut track[at..at + LENGTH],
+            Header { area, pack, block },
+            places,
+        );
     }
 }
 
@@ -36,7 +61,7 @@ pub fn put_block(block: &mut [u8], header: Header, places: &[u8; DATA_PART_LENGT
 fn close_kept(block: &[u8; LENGTH]) -> bool
     ensures { result ≡ close_kept block.now }
 {
-    header::pack_of(block[1]) != 6 || numbers::bytes::are_zeros(&block[27..])
+    header::pack_of(block[1]) != 6 || numbers::bytes::are_zeros(&block[CLOSE..])
 }
 
 // The first rule that a block breaks, as its refusal.

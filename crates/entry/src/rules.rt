@@ -23,7 +23,8 @@ const FOLLOWS: [[bool; 8]; 5] = [
     [false, true, false, false, false, false, false, false],
 ];
 
-fn stand_number(stand: Stand) -> usize
+// The row of a stand in the table of what may follow.
+pub fn stand_number(stand: Stand) -> usize
     ensures { result ≡ stand_number stand }
 {
     stand as usize

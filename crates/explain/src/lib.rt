@@ -47,7 +47,7 @@ impl Explanation {
                 refusal,
                 place: 0,
                 offset: 0,
-                why: call::call_reason(
+                why: call::reason_of_call(
                     refusal,
                     reader.size,
                     reader.next,
@@ -66,7 +66,7 @@ impl Explanation {
             refusal: stop.refusal,
             place: stop.place,
             offset,
-            why: entries::entry_reason(
+            why: entries::reason_at_entry(
                 stop.refusal,
                 reader.size,
                 entries,

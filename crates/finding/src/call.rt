@@ -19,7 +19,7 @@ fn next_reason(next: u32, number: u32) -> Reason
 
 // In a state of this size and next number.
 #[tactic(auto, unfolding(reasons::specs::Reasons::call_reason))]
-pub fn call_reason(
+pub fn reason_of_call(
     refusal: Refusal,
     size: u32,
     next: u32,
@@ -40,5 +40,24 @@ pub fn call_reason(
         ),
         Refusal::Rows => Reason::of(rows as u64, 12 * (entries as u64), u64::MAX),
         _ => Reason::none(),
+    }
+}
+
+// The same by a number, any at all: zeros where no refusal of groups has it.
+#[tactic(auto, using(crate::proofs::NoRule::no_call))]
+pub fn call_reason(
+    refusal: u32,
+    size: u32,
+    next: u32,
+    length: usize,
+    number: u32,
+    entries: u32,
+    rows: usize,
+) -> Reason
+    ensures { result ≡ call_reason refusal size next length number entries rows }
+{
+    match Refusal::try_from(refusal) {
+        Ok(refusal) => reason_of_call(refusal, size, next, length, number, entries, rows),
+        Err(_) => Reason::none(),
     }
 }

@@ -23,7 +23,7 @@ pub fn entry_offset(size: u32, place: u32) -> u32
 
 // By the rule that entry k of n breaks, where the scan has come to `here`.
 #[tactic(auto, unfolding(reasons::specs::Reasons::entry_reason))]
-pub fn entry_reason(
+pub fn reason_at_entry(
     refusal: Refusal,
     size: u32,
     entries: u32,
@@ -59,5 +59,23 @@ pub fn entry_reason(
         Refusal::TotalDiffers => Reason::of(count, sum, sum),
         Refusal::OwedEarly => Reason::of(count, 0, Group::MOST_OWING as u64),
         _ => Reason::none(),
+    }
+}
+
+// The same by a number, any at all: zeros where no refusal of groups has it.
+#[tactic(auto, using(crate::proofs::NoRule::no_entry))]
+pub fn entry_reason(
+    refusal: u32,
+    size: u32,
+    entries: u32,
+    place: u32,
+    here: Cursor,
+    entry: Entry,
+) -> Reason
+    ensures { result ≡ entry_reason refusal (stop size entries place here) entry }
+{
+    match Refusal::try_from(refusal) {
+        Ok(refusal) => reason_at_entry(refusal, size, entries, place, here, entry),
+        Err(_) => Reason::none(),
     }
 }

@@ -2,8 +2,9 @@
 // 9.4.9.1.
 #![tactic(auto)]
 
-ghost use Rattle.std.specs.Prelude.{◌≡◌, ◌<◌};
-ghost use Rattle.header.specs.Header.{even, tape_area, area_kept, sw1_of, sw2_of, header_of, pack_of, pack_kept, sw1_kept, sw2_kept};
+ghost use Rattle.std.specs.Prelude.{◌≡◌, ◌+◌, ◌<◌, ◌≤◌, length};
+ghost use Rattle.numbers.specs.Store.{put};
+ghost use Rattle.header.specs.Header.{header_length, even, tape_area, area_kept, sw1_of, sw2_of, header_of, pack_of, pack_kept, sw1_kept, sw2_kept};
 
 // The tape areas: an Area ID without its first bit, X. Numbers and no enum: two tests alone look at them, and an enum would first
 // have to be made by those same tests.
@@ -27,23 +28,18 @@ pub struct Header {
 }
 
 impl Header {
-    // SW1: the Area ID over 1000 in an even block, zero in an odd one.
+    // SW1 of its block.
     pub fn sw1(self) -> u8
         ensures { result ≡ sw1_of self.area self.block }
     {
-        if is_even(self.block) {
-            ((self.area as u8) << 4) | 0x08
-        } else {
-            0
-        }
+        sw1(self.area, self.block)
     }
 
-    // SW2: b8 set, the Pack ID, the block number.
-    #[tactic(auto, using(crate::proofs::HeaderLaws::sw2_made))]
+    // SW2 of its block.
     pub fn sw2(self) -> u8
         ensures { result ≡ sw2_of self.pack self.block }
     {
-        (self.pack << 4) | 0x80 | self.block
+        sw2(self.pack, self.block)
     }
 
     // The three bytes.
@@ -55,6 +51,36 @@ impl Header {
         let sw2 = self.sw2();
         [sw1, sw2, sw1 ^ sw2]
     }
+}
+
+// SW1 of a block: the Area ID over 1000 in an even block, zero in an odd one.
+pub fn sw1(area: u32, block: u8) -> u8
+    requires { area < 16 }
+    ensures { result ≡ sw1_of area block }
+{
+    if is_even(block) {
+        ((area as u8) << 4) | 0x08
+    } else {
+        0
+    }
+}
+
+// SW2 of a block: b8 set, the Pack ID, the block number.
+#[tactic(auto, using(crate::proofs::HeaderLaws::sw2_made))]
+pub fn sw2(pack: u8, block: u8) -> u8
+    requires { (pack < 8) × (block < 16) }
+    ensures { result ≡ sw2_of pack block }
+{
+    (pack << 4) | 0x80 | block
+}
+
+// A block's three header bytes from index `at` on.
+pub fn put_header(track: &mut [u8], at: usize, area: u32, pack: u8, block: u8)
+    requires header_length_in_bounds { at + header_length ≤ length track.old }
+    requires area_bound { (area < 16) × ((pack < 8) × (block < 16)) }
+    ensures { track.new ≡ put track.old at (header_of area pack block) }
+{
+    numbers::bytes::put_bytes(track, at, &Header { area, pack, block }.bytes());
 }
 
 // Whether a block's number is even.

@@ -4,6 +4,7 @@
 
 ghost use Rattle.std.specs.Prelude.{◌≡◌, [], ◌∷◌, length};
 ghost use Rattle.numbers.specs.Numbers.{in_bytes};
+ghost use Rattle.answer.specs.Answer.{RefusedAt};
 ghost use Rattle.answer.specs.Results.{told_of};
 ghost use Rattle.slices.specs.Call.{answer_length, lengths_kept, Tells};
 
@@ -42,6 +43,15 @@ fn put_answer(
     numbers::put_number(answer, 20, taken);
 }
 
+// A refusal by any number, and a place, into a call's answer slice. Answers what the call returns.
+pub fn tell_refused(answer: &mut [u8], refusal: u32, place: u32) -> u32
+    requires { length answer.old ≡ answer_length }
+    ensures { Tells (RefusedAt refusal place) result answer.new }
+{
+    put_answer(answer, refusal, place, 0, 0, 0, 0);
+    refusal
+}
+
 // What a call tells, into its answer slice. Answers what the call returns.
 pub fn tell<R: Numbered>(answer: &mut [u8], told: Told<R>) -> u32
     requires { length answer.old ≡ answer_length }
@@ -60,10 +70,6 @@ pub fn tell<R: Numbered>(answer: &mut [u8], told: Told<R>) -> u32
             );
             0
         }
-        Err(refused) => {
-            let refusal = refused.refusal.number();
-            put_answer(answer, refusal, refused.place, 0, 0, 0, 0);
-            refusal
-        }
+        Err(refused) => tell_refused(answer, refused.refusal.number(), refused.place),
     }
 }

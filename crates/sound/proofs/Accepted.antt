@@ -14,6 +14,7 @@ use Rattle.group.specs.declared.Phase.TheVariants.{Inside}
 use Rattle.laying.specs.declared.Writer.{Writer}
 use Rattle.laying.specs.Bounds.{Grown, Ready, Opened, span}
 use Rattle.sound.specs.State.{is_free, is_inside, is_owed, writer_sound, length_kept, remains_kept, none_open_kept, value_kept, offer_kept, end_remains_kept, ends_empty, record_refusal, separator_refusal, end_refusal}
+use Rattle.sound.proofs.Exits.{RemainsMet}
 use Rattle.sound.proofs.SoundLaws.{Sound, sound, chosen}
 
 -- One entry more has its place in a sound state, whatever its phase.
@@ -38,10 +39,6 @@ is_ready {s} {g} a =
       next = a.next;
       owing = λ p. a.sound.empty (ap is_free p);
     }
-
--- What is met on the way through the links "1, 4, 14".
-abbrev RemainsMet : Writer → ℕ → Type 0
-RemainsMet s len = ((writer_sound s ≡ true) × (len ≡ s.size)) × (s.next ≤ last_number)
 
 -- The links "1, 4, 14", with which a record's chain and a separator's begin.
 opening : (s : Writer) (g : List ℕ) (more : ℕ)

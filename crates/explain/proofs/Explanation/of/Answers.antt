@@ -25,7 +25,7 @@ returns-then-is_repeat c = told_repeat _ _ _ _ _ (sym c.is_repeat.ensures ∙ c.
 
 pub returns-in-Err : goal.returns-in-Err
 returns-in-Err c =
-    told_before _ _ _ _ _ _ _ c.in-Err.ensures (eqb-false _ _ (refusal_not_zero c.in-Err.refusal)) (sym c.is_repeat.ensures ∙ c.if-is_repeat.false) c.call_reason.ensures
+    told_before _ _ _ _ _ _ _ c.in-Err.ensures (eqb-false _ _ (refusal_not_zero c.in-Err.refusal)) (sym c.is_repeat.ensures ∙ c.if-is_repeat.false) c.reason_of_call.ensures
 
 pub scan_plainly-requires : goal.scan_plainly-requires
 scan_plainly-requires c = let r = open_to c in (cut r, rw c.opening-opening.ensures (begins r))
@@ -43,5 +43,5 @@ entry_at-entry-requires c =
 
 pub returns : goal.returns
 returns c =
-    told_stop _ _ _ _ _ c.in_ok-stop.ensures.value _ c.entry_offset-offset.ensures _ c.entry_at-entry.ensures.0 _ c.entry_reason.ensures
+    told_stop _ _ _ _ _ c.in_ok-stop.ensures.value _ c.entry_offset-offset.ensures _ c.entry_at-entry.ensures.0 _ c.reason_at_entry.ensures
     ∙ told_scan _ _ _ _ _ c.in_default.ensures _ (scanned (goal.at.returns c).After-scan_plainly)
