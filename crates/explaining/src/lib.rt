@@ -45,7 +45,7 @@ pub fn tell_start(text: &mut Text, size: u32, bytes: &[u8]) -> Option<Reader>
 {
     let first = sections::pair_at(bytes, 0);
     match Reader::start(size, first.number) {
-        Ok(reader) => Some(reader),
+        Ok(state) => Some(state),
         Err(refusal) => {
             tell_start_refused(text, refusal, first.number);
             None

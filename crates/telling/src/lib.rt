@@ -31,7 +31,7 @@ pub fn tell_start(text: &mut Text, size: u32, bytes: &[u8]) -> Option<Reader>
 {
     let first = sections::pair_at(bytes, 0);
     match Reader::start(size, first.number) {
-        Ok(reader) => Some(reader),
+        Ok(state) => Some(state),
         Err(refusal) => {
             lines::add_refusal(text, refusal.number(), 0);
             None
