@@ -2,7 +2,7 @@
 #![tactic(auto)]
 
 ghost use Rattle.std.specs.Prelude.{◌+◌, ◌*◌, ◌≤◌, ◌≡◌, ◌++◌, length};
-ghost use Rattle.words.specs.Added.{text_length, Added};
+ghost use Rattle.words.specs.Added.{room, Added};
 ghost use Rattle.lines.specs.Text.{ending, group_line, row_line, row_lines, group_lines, repeat_line, refusal_line, end_line, bad_line};
 
 use group::Phase;
@@ -22,9 +22,8 @@ fn ending(phase: Phase) -> &'static [u8]
 }
 
 // One row's line: name, offset, count.
-#[tactic(auto, unfolding(crate::specs::Text::row_line))]
 fn add_row(text: &mut Text, kind: u32, offset: u32, count: u32)
-    requires { length text.old + 32 ≤ text_length }
+    requires { 32 ≤ room text.old }
     ensures { Added 32 text.old (row_line kind offset count) text.new }
 {
     text.add_kind(kind as u64);
@@ -36,7 +35,7 @@ fn add_row(text: &mut Text, kind: u32, offset: u32, count: u32)
 // The lines of the first n rows.
 #[tactic(auto, using(crate::proofs::RowLaws::no_rows, crate::proofs::RowLaws::one_row_more, std::proofs::lemmas::Grind::common_steps))]
 fn add_rows(text: &mut Text, n: usize, rows: &[u32])
-    requires { (length text.old + 32 * n ≤ text_length) × (3 * n ≤ length rows.now) }
+    requires { (32 * n ≤ room text.old) × (3 * n ≤ length rows.now) }
     ensures { Added (32 * n) text.old (row_lines n rows.now) text.new }
 {
     for i in 0..n {
@@ -45,9 +44,8 @@ fn add_rows(text: &mut Text, n: usize, rows: &[u32])
 }
 
 // The line of a group: its number and its entry count.
-#[tactic(auto, unfolding(crate::specs::Text::group_line))]
 fn add_head(text: &mut Text, number: u32, entries: u32)
-    requires { length text.old + 36 ≤ text_length }
+    requires { 36 ≤ room text.old }
     ensures { Added 36 text.old (group_line number entries) text.new }
 {
     text.add_labelled(b"group", number);
@@ -58,7 +56,7 @@ fn add_head(text: &mut Text, number: u32, entries: u32)
 // All lines of a group.
 #[tactic(auto, unfolding(crate::specs::Text::group_lines))]
 pub fn add_group(text: &mut Text, number: u32, entries: u32, rows: &[u32])
-    requires { (length text.old + (36 + 32 * entries) ≤ text_length) × (3 * entries ≤ length rows.now) }
+    requires { (36 + 32 * entries ≤ room text.old) × (3 * entries ≤ length rows.now) }
     ensures { Added (36 + 32 * entries) text.old (group_lines number entries rows.now) text.new }
 {
     add_head(text, number, entries);
@@ -68,7 +66,7 @@ pub fn add_group(text: &mut Text, number: u32, entries: u32, rows: &[u32])
 // The line of a repeat.
 #[tactic(auto, unfolding(crate::specs::Text::repeat_line))]
 pub fn add_repeat(text: &mut Text, number: u32)
-    requires { length text.old + 18 ≤ text_length }
+    requires { 18 ≤ room text.old }
     ensures { Added 18 text.old (repeat_line number) text.new }
 {
     text.add_labelled(b"repeat", number);
@@ -76,9 +74,8 @@ pub fn add_repeat(text: &mut Text, number: u32)
 }
 
 // The line of a refusal.
-#[tactic(auto, unfolding(crate::specs::Text::refusal_line))]
 pub fn add_refusal(text: &mut Text, refusal: u32, place: u32)
-    requires { length text.old + 33 ≤ text_length }
+    requires { 33 ≤ room text.old }
     ensures { Added 33 text.old (refusal_line refusal place) text.new }
 {
     text.add_labelled(b"refused", refusal);
@@ -87,9 +84,8 @@ pub fn add_refusal(text: &mut Text, refusal: u32, place: u32)
 }
 
 // The line that ends a run.
-#[tactic(auto, unfolding(crate::specs::Text::end_line))]
 pub fn add_end(text: &mut Text, phase: Phase, sum: u32)
-    requires { length text.old + 22 ≤ text_length }
+    requires { 22 ≤ room text.old }
     ensures { Added 22 text.old (end_line phase sum) text.new }
 {
     text.add(ending(phase));
@@ -100,7 +96,7 @@ pub fn add_end(text: &mut Text, phase: Phase, sum: u32)
 // The line of a run that is not what document 01 asks for.
 #[tactic(auto, unfolding(crate::specs::Text::bad_line))]
 pub fn add_bad(text: &mut Text)
-    requires { length text.old + 13 ≤ text_length }
+    requires { 13 ≤ room text.old }
     ensures { Added 13 text.old bad_line text.new }
 {
     text.add(b"bad run file\n");

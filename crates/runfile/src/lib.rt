@@ -12,6 +12,7 @@ ghost use Rattle.sections.specs.Sections.{pair_at};
 ghost use Rattle.runfile.specs.Follows.{Follows};
 
 use input::WholeSections;
+use output::TEXT_LENGTH;
 use programs::Program;
 use reader::Reader;
 use std::io::{Read, Write};
@@ -38,7 +39,8 @@ impl<P: Program, R: Read, W: Write> Run<P, R, W> {
             Ok(()) => Some(&buffer[..size]),
             Err(_) => None,
         };
-        let mut text = Text::new();
+        let mut bytes = [0u8; TEXT_LENGTH];
+        let mut text = Text::new(&mut bytes);
         let then = programs::tell_group(
             &self.program,
             &mut text,
@@ -47,7 +49,7 @@ impl<P: Program, R: Read, W: Write> Run<P, R, W> {
             &sections.bytes,
             i,
         );
-        output::say(&mut self.stdout, &text).ok()?;
+        output::say(&mut self.stdout, text.as_bytes()).ok()?;
         then
     }
 
@@ -55,9 +57,10 @@ impl<P: Program, R: Read, W: Write> Run<P, R, W> {
     fn end(&mut self, reader: Reader) {
         let mut more = [0u8; 1];
         let extra = input::read_whole(&mut self.stdin, &mut more).is_ok();
-        let mut text = Text::new();
+        let mut bytes = [0u8; TEXT_LENGTH];
+        let mut text = Text::new(&mut bytes);
         telling::tell_end(&mut text, reader, extra);
-        output::say(&mut self.stdout, &text).ok();
+        output::say(&mut self.stdout, text.as_bytes()).ok();
     }
 
     // The groups one by one, until one stops the run.
@@ -71,14 +74,15 @@ impl<P: Program, R: Read, W: Write> Run<P, R, W> {
 
     // The run after its sections.
     fn images(&mut self, sections: &WholeSections) {
-        let mut text = Text::new();
+        let mut bytes = [0u8; TEXT_LENGTH];
+        let mut text = Text::new(&mut bytes);
         let started = programs::tell_start(
             &self.program,
             &mut text,
             sections.size,
             &sections.bytes,
         );
-        output::say(&mut self.stdout, &text).ok();
+        output::say(&mut self.stdout, text.as_bytes()).ok();
         let Some(first) = started else {
             return;
         };
@@ -89,9 +93,10 @@ impl<P: Program, R: Read, W: Write> Run<P, R, W> {
 
     // The sections are not what document 01 asks for.
     fn bad(&mut self) {
-        let mut text = Text::new();
+        let mut bytes = [0u8; TEXT_LENGTH];
+        let mut text = Text::new(&mut bytes);
         telling::tell_bad(&mut text);
-        output::say(&mut self.stdout, &text).ok();
+        output::say(&mut self.stdout, text.as_bytes()).ok();
     }
 
     // The whole run.

@@ -5,11 +5,14 @@ ghost use Rattle.std.specs.Io.KnownBytes.{Appends};
 
 use std::io;
 use std::io::Write;
-use words::Text;
+
+// Room for a step's text. The longest is that of a group of 4,096 bytes with the most entries, 1,016: 36 bytes at most for its
+// own line, 32 at most for each row's.
+pub const TEXT_LENGTH: usize = 32768;
 
 // All of the text. An error where not all of it could be written.
-pub fn say<W: Write>(stdout: &mut W, text: &Text) -> io::Result<()>
+pub fn say<W: Write>(stdout: &mut W, text: &[u8]) -> io::Result<()>
     ensures { OnOk result (Appends (W.contents stdout.old) (W.contents stdout.new) text.now) }
 {
-    stdout.write_all(text.as_bytes())
+    stdout.write_all(text)
 }

@@ -3,7 +3,8 @@
 use Rattle.std.specs.Prelude.{Option, Some, Result, Ok}
 use Prim.Native.Nat.{ℕ, ◌*◌, ◌≤◌}
 use mathlib.Core.Path.{◌≡◌, refl, sym, ap, ◌∙◌, subst}
-use mathlib.Core.List.{List, [], append-nil}
+use mathlib.Core.Bool.{Bool, true, false}
+use mathlib.Core.List.{List, []}
 use native.Mathlib.Omega.{arith}
 use lib.ListN.{length, take}
 use Rattle.numbers.specs.Store.{put}
@@ -15,25 +16,28 @@ use Rattle.reader.specs.declared.Reader.{Reader}
 use Rattle.reader.specs.declared.Read.{Read}
 use Rattle.reader.specs.ReadAnswer.{ReadAnswer, answer_of}
 use Rattle.reader.specs.ReadAnswer as answer
-use Rattle.reader.specs.Answer.{read_call, group_rows, rows_left, as_numbers, Reads}
+use Rattle.reader.specs.ReaderStart.{ReaderStart}
+use Rattle.sections.specs.declared.Pair.{Pair}
+use Rattle.reader.specs.Answer.{reader_start_call, read_call, group_rows, rows_left, as_numbers, Reads}
 use Rattle.reader.proofs.Accepted.{accepted}
-use Rattle.words.specs.Added.{Added}
+use Rattle.words.specs.Added.{Lent, Added}
+use Rattle.words.proofs.AddedLaws.{added_none, added_as}
 use Rattle.lines.specs.Text.{row_lines, group_lines, repeat_line, refusal_line}
 use Rattle.lines.proofs.RowLaws.{rows_first}
-use Rattle.telling.specs.Telling.{Step, last, step_of_read, most_entries, row_numbers, read_step, longest_text, Tells}
+use Rattle.telling.specs.Telling.{Step, last, bad_step, step_of_start, start_step, step_of_read, most_entries, row_numbers, read_step, group_step, longest_text, Tells}
 
 -- A text that was added, and how the run goes on, are a step told; by whatever other account that step is the same.
-pub tells : {most : ℕ} {old new : List ℕ} {step other : Step} {then : Option Reader}
+pub tells : {most : ℕ} {old new : Lent} {step other : Step} {then : Option Reader}
     → other ≡ step → most ≤ longest_text → Added most old step.text new → then ≡ step.then → Tells other old new then
 tells {most} {old} {new} {step} {other} {then} e h a g =
-    subst (λ (s : Step). Tells s old new then) (sym e) (record { added = (a.0, omega (arith, a.1, h)); goes = g })
+    subst (λ (s : Step). Tells s old new then) (sym e) (record { added = added_as most longest_text old new step.text step.text refl h a; goes = g })
 
-pub tells_as : {old new : List ℕ} {step other : Step} {then : Option Reader} → other ≡ step → Tells step old new then → Tells other old new then
+pub tells_as : {old new : Lent} {step other : Step} {then : Option Reader} → other ≡ step → Tells step old new then → Tells other old new then
 tells_as {old} {new} {step} {other} {then} e t = subst (λ (s : Step). Tells s old new then) (sym e) t
 
 -- A step of which nothing is told.
-pub tells_nothing : (old : List ℕ) {other : Step} {then : Option Reader} → other ≡ record { text = []; then = then } → Tells other old old then
-tells_nothing old {other} {then} e = tells {most = 0} e (omega arith) (sym (append-nil old), omega arith) refl
+pub tells_nothing : (old : Lent) {other : Step} {then : Option Reader} → other ≡ record { text = []; then = then } → Tells other old old then
+tells_nothing old {other} {then} e = tells {most = 0} e (omega arith) (added_none 0 old) refl
 
 -- The lines of a group are made of its own rows, whatever stood in the room for them.
 lines_left : (s : Reader) (group : List ℕ) (number n : ℕ) (old : List ℕ) → 3 * n ≤ length old
@@ -75,3 +79,18 @@ module _ (s : Reader) (group : List ℕ) (number n : ℕ) (old rows : List ℕ) 
   pub read_off : (t : Reader) (refusal place : ℕ) → a ≡ answer.Refused t refusal place → read_step s group number n ≡ last (refusal_line refusal place)
   unfolding read_step
   read_off t refusal place e = ap (λ (b : ReadAnswer). step_of_read b number n (group_rows s group n)) (answered (answer.Refused t refusal place) e)
+
+-- A start, by its own answer.
+pub start_step_lem : (size : ℕ) (pair first : Pair) (a b : ReaderStart) → pair ≡ first → a ≡ reader_start_call size pair.number → a ≡ b → start_step size first ≡ step_of_start b
+unfolding start_step
+start_step_lem size pair first a b p e f = ap (λ (q : Pair). step_of_start (reader_start_call size q.number)) (sym p) ∙ ap step_of_start (sym e ∙ f)
+
+-- A group whose image is cut short, and one that is read.
+pub group_short : (s : Reader) (whole : Bool) (image : List ℕ) (pair : Pair) → whole ≡ false → group_step s whole image pair ≡ bad_step
+unfolding group_step
+group_short s whole image pair e = rw e
+
+pub group_whole : (s : Reader) (whole : Bool) (image : List ℕ) (pair own : Pair) → whole ≡ true → own ≡ pair
+    → group_step s whole image pair ≡ read_step s image own.number own.entries
+unfolding group_step
+group_whole s whole image pair own e p = rw (e, p)

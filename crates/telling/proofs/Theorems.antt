@@ -4,7 +4,7 @@ use Rattle.std.specs.Prelude.{Option, Some}
 use Prim.Native.Nat.{ℕ, ◌+◌, ◌*◌, ◌≤◌}
 use mathlib.Core.Path.{◌≡◌, refl, sym, ap, ◌∙◌}
 use mathlib.Core.Bool.{Bool, true, false, cond, not}
-use mathlib.Core.List.{List, []}
+use mathlib.Core.List.{List, [], ◌++◌}
 use native.Mathlib.Omega.{arith}
 use borrow.Author.Tests.{le-leb, leb-true}
 use lib.Dec.{eqb, leb}
@@ -16,11 +16,12 @@ use Rattle.reader.specs.ReadAnswer as answer
 use Rattle.reader.specs.Answer.{sound, length_kept, is_repeat, next_is, rows_fit, read_refusal, answered, group_scan, read_call}
 use Rattle.sections.specs.Sections.{largest_size}
 use Rattle.lines.specs.Text.{repeat_line}
+use Rattle.words.specs.Added.{Lent}
 use Rattle.telling.specs.Telling.{Step, row_numbers, read_step, Tells}
 
 -- What the program hands to its one write is a text that was empty before the step: it is the step's text.
-pub told_first : (step : Step) (text : List ℕ) (then : Option Reader) → Tells step [] text then → text ≡ step.text
-told_first step text then t = t.added.0
+pub told_first : (step : Step) (old text : Lent) (then : Option Reader) → old.added ≡ [] → Tells step old text then → text.added ≡ step.text
+told_first step old text then e t = t.added.0 ∙ ap (λ (l : List ℕ). l ++ step.text) e
 
 -- "4-byte L (64 to 4,096)": for groups of such a size the room for rows is enough, so that what is printed never hangs on it. A
 -- read that is lent any room for its 3n numbers answers the same.

@@ -2,7 +2,8 @@
 -- it.
 -- Assumes nothing.
 use Rattle.std.specs.Prelude.{ℕ, ◌+◌, ◌*◌, ◌≡◌, List, [], Bool, cond, Option, Some, None}
-use Rattle.words.specs.Added.{Added}
+use Rattle.std.specs.Borrow.{Bor}
+use Rattle.words.specs.Added.{Lent, Added}
 use Rattle.lines.specs.Text.{group_lines, repeat_line, refusal_line, end_line, bad_line}
 use Rattle.reader.specs.declared.Reader.{Reader}
 use Rattle.reader.specs.ReaderStart.{ReaderStart}
@@ -55,6 +56,11 @@ read_step s image number entries =
 unfoldable pub group_step : Reader → Bool → List ℕ → Pair → Step
 group_step s whole image pair = cond whole (read_step s image pair.number pair.entries) bad_step
 
+-- The bytes of an image that is whole; of one that is cut short, none.
+abbrev pub image_of : Option (Bor (List ℕ)) → List ℕ
+image_of (Some bytes) = bytes.now
+image_of None = []
+
 -- "extra bytes are looked for after the last group's lines and before `end`"
 unfoldable pub end_step : Reader → Bool → Step
 end_step s extra = cond extra bad_step (last (end_line s.phase s.sum))
@@ -64,6 +70,6 @@ abbrev pub longest_text : ℕ
 longest_text = 36 + 32 * most_entries
 
 -- A step is told: its text was added to the end of `old`, and how the run goes on is answered.
-pub record Tells (step : Step) (old new : List ℕ) (then : Option Reader) : Type 0 where
+pub record Tells (step : Step) (old new : Lent) (then : Option Reader) : Type 0 where
   pub added : Added longest_text old step.text new
   pub goes : then ≡ step.then

@@ -1,105 +1,123 @@
-// A text in fixed memory, and what its lines are made of: bytes, numbers in decimal, the kinds' names. Each is added to the end of the
-// text; the caller sees to the room.
+// A text in memory that its caller lends, and what its lines are made of: bytes, numbers in decimal, the kinds' names. Each is added to the
+// end of the text; the caller sees to the room.
 #![tactic(auto)]
 
-ghost use Rattle.std.specs.Prelude.{◌+◌, ◌≤◌, ◌≡◌, [], ◌∷◌, ◌++◌, length};
-ghost use Rattle.words.specs.Added.{text_length, Added};
+ghost use Rattle.std.specs.Prelude.{◌+◌, ◌≤◌, ◌≡◌, [], ◌∷◌, ◌++◌, length, take, drop};
+ghost use Rattle.words.specs.Added.{room, Added};
 ghost use Rattle.words.specs.Words.{decimal, kind_name, field, labelled};
 
 use std::marker::Model;
 
-// Room for what a program prints at once. The longest is what it tells of a group of 4,096 bytes with the most entries, 1,016: 36 bytes at
-// most for the group's own line, 32 at most for each row's.
-pub const TEXT_LENGTH: usize = 32768;
-
-// Bytes in the order in which they were added.
+// Bytes in the order in which they were added, in memory that the caller lends.
 #[derive(Debug, Drop)]
-pub struct Text {
-    bytes: [u8; TEXT_LENGTH],
-    length: usize,
+pub struct Text<'a> {
+    bytes: &'a mut [u8],
+    end: usize,
 }
 
-// Clauses see the bytes that were added.
-impl Model for Text {
-    ghost use Rattle.std.specs.Prelude.{ℕ, ◌≤◌, List, take};
-    ghost use Rattle.words.specs.Added.{text_length};
+// Clauses see the bytes that were added, those that are free, and the loan.
+impl<'a> Model for Text<'a> {
+    ghost use Rattle.std.specs.Prelude.{◌≤◌, length, take, drop};
+    ghost use Rattle.words.specs.Added.{Lent};
 
-    ghost Value = { List ℕ };
+    ghost Value = { Lent };
 
-    ghost view = { λ text. take text.length text.bytes };
+    ghost view = { λ text. record { added = take text.end text.bytes.now; free = drop text.end text.bytes.now; loan = text.bytes.ghost_name } };
 
-    ghost invariant = { λ text. text.length ≤ text_length };
+    ghost invariant = { λ text. text.end ≤ length text.bytes.now };
 }
 
-impl Text {
-    pub fn new() -> Self
-        ensures { result ≡ [] }
+impl<'a> Text<'a> {
+    // A text of which nothing stands yet.
+    pub fn new(bytes: &'a mut [u8]) -> Text<'a>
+        ensures { (result.added ≡ []) × (result.free ≡ bytes.old) × (result.loan ≡ bytes.entry.ghost_name) }
     {
-        Text {
-            bytes: [0; TEXT_LENGTH],
-            length: 0,
-        }
+        Text { bytes, end: 0 }
+    }
+
+    // A text that goes on: the first `at` bytes stand already.
+    pub fn going_on(bytes: &'a mut [u8], at: usize) -> Text<'a>
+        requires { at ≤ length bytes.old }
+        ensures { (result.added ≡ take at bytes.old) × (result.free ≡ drop at bytes.old) × (result.loan ≡ bytes.entry.ghost_name) }
+    {
+        Text { bytes, end: at }
+    }
+
+    // The memory, given back: what was added, and the free bytes as they were.
+    pub fn into_bytes(self) -> &'a mut [u8]
+        ensures { (result.now ≡ self.entry.added ++ self.entry.free) × (result.ghost_name ≡ self.entry.loan) }
+    {
+        let Text { bytes, end: _ } = self;
+        bytes
     }
 
     pub fn as_bytes(&self) -> &[u8]
-        ensures { result.now ≡ self.now }
+        ensures { result.now ≡ self.now.added }
     {
-        &self.bytes[..self.length]
+        &self.bytes[..self.end]
     }
 
     // Bytes as they are.
     pub fn add(&mut self, word: &[u8])
-        requires { length self.old + length word.now ≤ text_length }
+        requires { length word.now ≤ room self.old }
         ensures { Added (length word.now) self.old word.now self.new }
     {
-        let end = self.length + word.len();
-        self.bytes[self.length..end].copy_from_slice(word);
-        self.length = end;
+        let end = self.end + word.len();
+        self.bytes[self.end..end].copy_from_slice(word);
+        self.end = end;
     }
 
     // One byte.
     pub fn add_byte(&mut self, byte: u8)
-        requires { length self.old + 1 ≤ text_length }
+        requires { 1 ≤ room self.old }
         ensures { Added 1 self.old (byte ∷ []) self.new }
     {
-        self.bytes[self.length] = byte;
-        self.length += 1;
+        self.bytes[self.end] = byte;
+        self.end += 1;
     }
 
     // The digits of a number.
     #[tactic(auto, using(crate::proofs::DecimalLaws::decimal_fewest))]
     fn add_digits(&mut self, n: u64)
-        requires { length self.old + length (decimal n) ≤ text_length }
-        ensures { self.new ≡ self.old ++ decimal n }
+        requires { length (decimal n) ≤ room self.old }
+        ensures { Added (length (decimal n)) self.old (decimal n) self.new }
     {
         let mut digits = [0u8; 20];
         let count = io::decimal(n, &mut digits);
         self.add(&digits[..count]);
     }
 
-    // A number in decimal: of 64 bits, which has at most twenty digits.
+    // A number in decimal: of 64 bits, which has at most twenty digits, and of 32 bits, which has at most ten.
     #[tactic(auto, using(crate::proofs::DecimalLaws::decimal_20, std::proofs::lemmas::Grind::common_steps))]
-    pub fn add_number(&mut self, n: u64)
-        requires { length self.old + 20 ≤ text_length }
+    pub fn add_long(&mut self, n: u64)
+        requires { 20 ≤ room self.old }
         ensures { Added 20 self.old (decimal n) self.new }
     {
         self.add_digits(n);
     }
 
-    // A space and a number of 32 bits, which has at most ten digits.
-    #[tactic(auto, using(crate::proofs::DecimalLaws::decimal_10, std::proofs::lemmas::Grind::common_steps), unfolding(crate::specs::Words::field))]
+    #[tactic(auto, using(crate::proofs::DecimalLaws::decimal_10, std::proofs::lemmas::Grind::common_steps))]
+    pub fn add_number(&mut self, n: u32)
+        requires { 10 ≤ room self.old }
+        ensures { Added 10 self.old (decimal n) self.new }
+    {
+        self.add_digits(n as u64);
+    }
+
+    // A space and a number.
+    #[tactic(auto, unfolding(crate::specs::Words::field))]
     pub fn add_field(&mut self, n: u32)
-        requires { length self.old + 11 ≤ text_length }
+        requires { 11 ≤ room self.old }
         ensures { Added 11 self.old (field n) self.new }
     {
         self.add_byte(b' ');
-        self.add_digits(n as u64);
+        self.add_number(n);
     }
 
     // A word, then a space and a number.
     #[tactic(auto, unfolding(crate::specs::Words::labelled))]
     pub fn add_labelled(&mut self, word: &[u8], n: u32)
-        requires { length self.old + (length word.now + 11) ≤ text_length }
+        requires { length word.now + 11 ≤ room self.old }
         ensures { Added (length word.now + 11) self.old (labelled word.now n) self.new }
     {
         self.add(word);
@@ -108,7 +126,7 @@ impl Text {
 
     // The name of a kind; of a number that is no kind's, nothing.
     pub fn add_kind(&mut self, kind: u64)
-        requires { length self.old + 9 ≤ text_length }
+        requires { 9 ≤ room self.old }
         ensures { Added 9 self.old (kind_name kind) self.new }
     {
         self.add(kind_name(kind));

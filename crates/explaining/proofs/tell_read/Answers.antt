@@ -17,7 +17,7 @@ returns-in-Ok-Repeated c =
 pub returns-in_ok-x-in-Err : goal.returns-in_ok-x-in-Err
 returns-in_ok-x-in-Err c =
     let off = ap (answer_of c.args.reader) c.in-Err.is in
-    tells (read_step_lem _ _ _ _ _ _ _ _ c.judge.ensures off c.in_ok-x-in-Err.ensures) (omega arith) c.add_refused.ensures refl
+    tells {most = 205} (read_step_lem _ _ _ _ _ _ _ _ c.judge.ensures off c.in_ok-x-in-Err.ensures) (omega arith) (rw (← c.number.ensures) c.add_refused.ensures) refl
 
 pub returns-in_err-x-in-Err : goal.returns-in_err-x-in-Err
 returns-in_err-x-in-Err c =

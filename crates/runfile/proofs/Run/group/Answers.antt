@@ -4,8 +4,8 @@ use Rattle.std.proofs.lemmas.List.{length-replicate}
 use Rattle.reader.specs.declared.Reader.{Reader}
 use Rattle.sections.specs.declared.Pair.{Pair}
 use Rattle.sections.specs.Sections.{pair_at}
-use Rattle.telling.specs.Telling.{Step, bad_step}
-use Rattle.programs.specs.Steps.{Program, group_of, image_of}
+use Rattle.telling.specs.Telling.{Step, bad_step, image_of}
+use Rattle.programs.specs.Steps.{Program, group_of}
 use Rattle.programs.proofs.StepLaws.{group_short}
 use Rattle.runfile.specs.Follows.{Follows}
 use Rattle.runfile.proofs.Run.group.Goals.{in-Ok, in-Err}
