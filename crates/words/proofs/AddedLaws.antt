@@ -11,13 +11,13 @@ use Rattle.words.specs.Added.{Lent, Added}
 abbrev pub ending : (end : ℕ) (bytes : List ℕ) → GName → Lent
 ending end bytes loan = record { added = take end bytes; free = drop end bytes; loan = loan }
 
-pub stored : (end : ℕ) (bytes word : List ℕ) (loan : GName) (old : Lent) → ending end bytes loan ≡ old → end ≤ length bytes
-    → Added (length word) old word (ending (end + length word) (put_mid end (end + length word - end) bytes word) loan)
-stored end bytes word loan old e h =
+pub stored : (end : ℕ) (bytes word written : List ℕ) (loan : GName) (old : Lent) → written ≡ word → ending end bytes loan ≡ old → end ≤ length bytes
+    → Added (length word) old word (ending (end + length word) (put_mid end (end + length word - end) bytes written) loan)
+stored end bytes word written loan old same e h =
     let count : length word ≡ end + length word - end = omega arith in
     let word_last = take-put_mid end (end + length word - end) bytes word (end + length word) refl h in
     let rest : drop (end + length word) (put_mid end (end + length word - end) bytes word) ≡ drop (end + length word) bytes = drop-put_mid end (end + length word - end) bytes word (end + length word) (omega arith) h count in
-    rw (sym e) (
+    rw (same, sym e) (
       word_last,
       rw (word_last, length-append) (omega arith),
       rest ∙ sym (drop-drop (length word) end bytes),
