@@ -130,10 +130,10 @@ fn b4_kept(before: bool, warned: bool) -> bool
 }
 
 // All rules of one entry, in this order: 8 where its flag has no meaning, 9, 10, 19 to 22, 12, 13 and 23. `limit` is L − 32 − 4n. Built
-// into each scan, so that the read, the one that the boot loader links, takes less code.
+// into each scan, so that the read, the one that the boot loader links, takes less code. 19 to 22 are asked by kind or one by one.
 #[inline(always)]
 #[tactic(auto, unfolding(crate::specs::Rules::entry_fault))]
-pub fn entry_fault(
+fn fault<const BY_KIND: bool>(
     size: u32,
     limit: u32,
     last: bool,
@@ -153,8 +153,44 @@ pub fn entry_fault(
     if !follow_kept(here.stand, kind, last) {
         return Err(Refusal::Follow);
     }
-    counts::count_fault(kind, here.sum, count)?;
+    if BY_KIND {
+        counts::count_fault_by_kind(kind, here.sum, count)?;
+    } else {
+        counts::count_fault(kind, here.sum, count)?;
+    }
     data_fault(size, limit, here.stand, here.reached, kind, count)
+}
+
+// For the read, in less code.
+#[inline(always)]
+pub fn entry_fault(
+    size: u32,
+    limit: u32,
+    last: bool,
+    here: Cursor,
+    meaning: Meaning,
+    count: u32,
+) -> Result<(), Refusal>
+    requires { (Bounded limit here) × ((limit ≤ size) × ((size ≤ standard_size) × (count ≤ longest_record))) }
+    ensures { number_of refusal_number result ≡ entry_fault size limit last here meaning count }
+{
+    fault::<false>(size, limit, last, here, meaning, count)
+}
+
+// For a scan with nothing but the rules, in less time.
+#[inline(always)]
+pub fn entry_fault_by_kind(
+    size: u32,
+    limit: u32,
+    last: bool,
+    here: Cursor,
+    meaning: Meaning,
+    count: u32,
+) -> Result<(), Refusal>
+    requires { (Bounded limit here) × ((limit ≤ size) × ((size ≤ standard_size) × (count ≤ longest_record))) }
+    ensures { number_of refusal_number result ≡ entry_fault size limit last here meaning count }
+{
+    fault::<true>(size, limit, last, here, meaning, count)
 }
 
 // Where the scan stands after an entry.

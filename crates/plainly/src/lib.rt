@@ -24,7 +24,7 @@ pub fn scan_plainly(group: &[u8], size: u32, entries: u32, opening: Cursor) -> R
         let at = limit + Group::ENTRY_LENGTH * left;
         let entry = group::entries::entry_at(group, at as usize);
         let meaning = group::flags::meaning_of(entry.flag);
-        if let Err(refusal) = rules::entry_fault(
+        if let Err(refusal) = rules::entry_fault_by_kind(
             size,
             limit,
             left == 0,
