@@ -1,13 +1,25 @@
 // The Sub Data Blocks of a track from C: making and reading.
 #![tactic(auto)]
 
-ghost use Rattle.std.specs.Prelude.{◌≡◌, [], ◌∷◌};
-ghost use Rattle.slices.specs.Call.{left};
+ghost use Rattle.std.specs.Prelude.{◌≡◌, [], ◌∷◌, length};
+ghost use Rattle.track.specs.Answer.{answer_of, told};
+ghost use Rattle.slices.specs.Call.{left, answer_length, Tells};
 ghost use Rattle.c_track.specs.Calls.{dds_subdata_make, dds_subdata_read};
 
-use answer::Outcome;
-use answer::refusals::{Numbered, Refusal};
+use answer::refusals::{Numbered, Refusal, TrackRefusal};
+use answer::{Outcome, Refused};
 use track::Track;
+
+// What a call tells of its answer: the refusal, then the block.
+fn tell(answer: &mut [u8], done: Result<(), Refused<TrackRefusal>>) -> u32
+    requires { length answer.old ≡ answer_length }
+    ensures { Tells (told (answer_of done)) result answer.new }
+{
+    match done {
+        Ok(()) => slices::tell::<TrackRefusal>(answer, Ok(Outcome::default())),
+        Err(refused) => slices::tell_refused(answer, refused.refusal.number(), refused.place),
+    }
+}
 
 // A track from its Area ID, Pack IDs and items, and the Item number of each place.
 pub fn make(
@@ -25,7 +37,7 @@ pub fn make(
         return Refusal::State.number();
     }
     let done = Track::make(area, frame, packs, items, track, numbers);
-    slices::tell(answer, done.map(|()| Outcome::default()))
+    tell(answer, done)
 }
 
 // A track's Pack IDs and what stands at its places, and the Item number of each place.
@@ -44,5 +56,5 @@ pub fn read(
         return Refusal::State.number();
     }
     let done = Track::read(area, frame, track, packs, items, numbers);
-    slices::tell(answer, done.map(|()| Outcome::default()))
+    tell(answer, done)
 }

@@ -1,10 +1,6 @@
 -- `make` meets its contract: the answer's length, or what making answers. Assumes nothing.
-use mathlib.Core.Path.{◌≡◌}
-use borrow.Author.Rules.{rules}
+use mathlib.Core.Path.{refl}
 use borrow.Author.Tests.{eq-eqb, ne_eqb}
-use Rattle.answer.specs.Numbers.{track_number}
-use Rattle.answer.specs.Results.{told_of}
-use Rattle.track.specs.Answer.{answer_of, told}
 use Rattle.slices.proofs.Calls.{stopped}
 use Rattle.c_track.specs.Calls.{dds_subdata_make}
 use Rattle.c_track.proofs.Laws.{made}
@@ -15,6 +11,4 @@ unfolding dds_subdata_make
 returns-then-answer-ne-ANSWER_LENGTH c = rw c.number.ensures (stopped _ _ _ _ (ne_eqb _ _ c.if-answer-ne-ANSWER_LENGTH.true))
 
 pub returns : goal.returns
-returns c =
-    let t : told_of track_number c.map.result ≡ told (answer_of c.make-done.result) = search rules in
-    made _ _ _ _ _ _ _ (eq-eqb _ _ c.if-answer-ne-ANSWER_LENGTH.false) c.make-done.ensures t c.tell.ensures
+returns c = made _ _ _ _ _ _ _ (eq-eqb _ _ c.if-answer-ne-ANSWER_LENGTH.false) c.make-done.ensures refl c.tell.ensures
