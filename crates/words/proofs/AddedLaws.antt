@@ -1,10 +1,12 @@
--- Adding to a text: a word stored behind what it has, one thing after the other, and nothing.
+-- Adding to a text: a word stored behind what it has, one thing after the other, and nothing; what the memory holds that is given back.
 -- Assumes nothing.
 use Rattle.std.proofs.Common.{ℕ, ◌+◌, ◌-◌, ◌≤◌, ◌≡◌, List, [], ◌++◌, length, take, drop, refl, sym, ap, subst, ◌∙◌, append_assoc, append-nil, arith}
-use Rattle.std.proofs.lemmas.List.{drop-drop, length-drop, length-append}
+use Rattle.std.proofs.lemmas.List.{drop-drop, length-drop, length-append, length-take-le}
 use Rattle.std.proofs.lemmas.Slice.{take-put_mid, drop-put_mid}
 use borrow.Rule.Slice.PartMut.{put_mid}
 use base.Fml.{GName}
+use Rattle.numbers.specs.Store.{put}
+use Rattle.numbers.proofs.Stores.{put_split}
 use Rattle.words.specs.Added.{Lent, Added}
 
 -- What a text shows whose bytes end there.
@@ -40,3 +42,19 @@ pub added_as : (most more : ℕ) (old new : Lent) (word as_word : List ℕ) → 
 added_as most more old new word as_word e h a =
     let b : Added most old as_word new = subst (λ (w : List ℕ). Added most old w new) e a in
     (b.0, omega (arith, b.1, h), b.2, omega (arith, b.3, h), b.4)
+
+-- A text that goes on behind `at` bytes, where `most` more have room: it ends behind the word. In the memory that is given back the word is
+-- put there, and no other byte is changed.
+pub ends_behind : (most at : ℕ) (memory : List ℕ) (begun new : Lent) (word : List ℕ) → at + most ≤ length memory → begun.added ≡ take at memory
+    → Added most begun word new → length new.added ≡ at + length word
+ends_behind most at memory begun new word fits first a =
+    ap (λ (l : List ℕ). length l) a.0 ∙ length-append begun.added word
+    ∙ ap (λ (l : List ℕ). length l + length word) first ∙ ap (λ (n : ℕ). n + length word) (length-take-le at memory (omega (arith, fits)))
+
+pub memory_put : (most at : ℕ) (memory : List ℕ) (begun new : Lent) (word : List ℕ) → at + most ≤ length memory → begun.added ≡ take at memory
+    → begun.free ≡ drop at memory → Added most begun word new → new.added ++ new.free ≡ put memory at word
+memory_put most at memory begun new word fits first rest a =
+    let begins : length begun.added ≡ at = ap (λ (l : List ℕ). length l) first ∙ length-take-le at memory (omega (arith, fits)) in
+    let whole : at + length word ≤ length memory = omega (arith, fits, a.1, begins, ends_behind most at memory begun new word fits first a) in
+    rw (a.0, a.2, first, rest, append_assoc, drop-drop (length word) at memory)
+    (sym (put_split memory at word whole ∙ append_assoc (take at memory) word (drop (at + length word) memory)))

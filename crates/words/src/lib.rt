@@ -43,7 +43,8 @@ impl<'a> Text<'a> {
         Text { bytes, end: at }
     }
 
-    // The memory, given back: what was added, and the free bytes as they were.
+    // The memory, given back: what was added, and the free bytes as they were. What a caller's memory then holds is shown by a function that
+    // gives it back in turn: the laws are `ends_behind` and `memory_put`.
     pub fn into_bytes(self) -> &'a mut [u8]
         ensures { (result.now ≡ self.entry.added ++ self.entry.free) × (result.ghost_name ≡ self.entry.loan) }
     {
