@@ -13,7 +13,7 @@ ghost use Rattle.runfile.specs.Follows.{Follows};
 
 use input::WholeSections;
 use output::TEXT_LENGTH;
-use programs::Program;
+use programs::Steps;
 use reader::Reader;
 use std::io::{Read, Write};
 use words::Text;
@@ -26,7 +26,7 @@ pub struct Run<P, R, W> {
     pub stdout: W,
 }
 
-impl<P: Program, R: Read, W: Write> Run<P, R, W> {
+impl<P: Steps, R: Read, W: Write> Run<P, R, W> {
     // One group: its image is read, and what is told of it is written. Where that fails the run stops, so that a listing may be cut
     // off and never has a hole.
     fn group(&mut self, reader: Reader, sections: &WholeSections, i: usize) -> Option<Reader>
@@ -41,7 +41,7 @@ impl<P: Program, R: Read, W: Write> Run<P, R, W> {
         };
         let mut bytes = [0u8; TEXT_LENGTH];
         let mut text = Text::new(&mut bytes);
-        let then = programs::tell_group(
+        let then = programs::tell_group_of(
             &self.program,
             &mut text,
             reader,
@@ -76,7 +76,7 @@ impl<P: Program, R: Read, W: Write> Run<P, R, W> {
     fn images(&mut self, sections: &WholeSections) {
         let mut bytes = [0u8; TEXT_LENGTH];
         let mut text = Text::new(&mut bytes);
-        let started = programs::tell_start(
+        let started = programs::tell_start_of(
             &self.program,
             &mut text,
             sections.size,
@@ -107,3 +107,6 @@ impl<P: Program, R: Read, W: Write> Run<P, R, W> {
         }
     }
 }
+
+#[cfg(test)]
+mod tests;

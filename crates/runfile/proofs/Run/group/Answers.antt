@@ -29,14 +29,14 @@ unfolding bad_step
 short p i s size pair image e = stopped p i s size pair (e ∙ ap (λ (step : Step). step.then) (group_short p i s image pair))
 
 pub returns-in_err-ok : goal.returns-in_err-ok
-returns-in_err-ok g c = stopped g.P.Program.program _ _ _ _ c.from_residual.ensures
+returns-in_err-ok g c = stopped g.P.Steps.program _ _ _ _ c.from_residual.ensures
 
 pub returns : goal.returns
 returns g c =
-    let went = c.tell_group-then.ensures.goes in
+    let went = c.tell_group_of-then.ensures.goes in
     elim c.match-read_whole.branch [
       | in-Ok w ↦ record { whole = is_some c.match-read_whole.image; image = image_of c.match-read_whole.image; long = rw w.image-is (search rules); goes = went }
       | in-Err w ↦
-          short g.P.Program.program _ _ _ _ []
-          (subst (λ (image : Option (Bor (List ℕ))). c.tell_group-then.result ≡ (group_of g.P.Program.program c.args.i c.args.reader (is_some image) (image_of image) (pair_at c.args.sections.now.bytes c.args.i)).then) w.image-is went)
+          short g.P.Steps.program _ _ _ _ []
+          (subst (λ (image : Option (Bor (List ℕ))). c.tell_group_of-then.result ≡ (group_of g.P.Steps.program c.args.i c.args.reader (is_some image) (image_of image) (pair_at c.args.sections.now.bytes c.args.i)).then) w.image-is went)
     ]
