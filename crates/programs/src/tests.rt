@@ -55,6 +55,29 @@ fn group_tells<P: Program + Copy>(
     then
 }
 
+// The parts by themselves: a start that is refused, and a group whose image is whole.
+fn parts_tell<P: Program>(
+    rt: &impl Abort,
+    program: &P,
+    reader: Reader,
+    refused: &[u8],
+    read: &[u8],
+) {
+    let mut memory = [0u8; TEXT_LENGTH];
+    let mut text = Text::new(&mut memory);
+    program.tell_start_refused(&mut text, Refusal::First, 0);
+    assert_eq!(rt; text.as_bytes(), refused);
+    let mut memory = [0u8; TEXT_LENGTH];
+    let mut text = Text::new(&mut memory);
+    let pair = Pair {
+        number: 1,
+        entries: 3,
+    };
+    let then = program.tell_read(&mut text, 1, reader, &image(), pair);
+    assert_eq!(rt; text.as_bytes(), read);
+    assert!(rt; then.is_some());
+}
+
 // "The first pair's number starts the run", 1 in case A: the lister tells its group, and the explainer nothing.
 #[test]
 fn tells_case_a(rt: HostRuntime) {
@@ -110,5 +133,16 @@ fn tells_a_short_image(rt: HostRuntime) {
         assert!(rt; then.is_none());
         let then = group_tells(&rt, Explainer, reader, None, &SECTIONS, b"bad run file\n");
         assert!(rt; then.is_none());
+    }
+}
+
+#[test]
+fn tells_the_parts(rt: HostRuntime) {
+    if let Some(reader) = start_tells(&rt, Lister, &SECTIONS, b"") {
+        let listed = b"group 1 entries 3\nentire 0 20\nseparator 20 0\nskip 20 44\n";
+        parts_tell(&rt, &Lister, reader, b"refused 3 at 0\n", listed);
+        let why =
+            b"refused 3 at 0\ngroup 1: the first number is out of range\nfound 0, allowed 1 to 65535\n";
+        parts_tell(&rt, &Explainer, reader, why, b"");
     }
 }
