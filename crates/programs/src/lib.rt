@@ -109,7 +109,7 @@ pub fn tell_group_of<P: Steps>(
     program.tell_group(text, reader, image, bytes, i)
 }
 
-// A program, by what it tells where the two differ. Its steps are those of `StepsOf`.
+// A program, by what it tells where the two differ. `StepsOf` makes its steps, for a run.
 pub trait Program {
     // Which of the two it is.
     ghost program: { programs.Program };

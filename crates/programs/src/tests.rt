@@ -55,6 +55,12 @@ fn group_tells<P: Program + Copy>(
     then
 }
 
+// The run of case A as it starts: nothing is told of it.
+fn begun(rt: &impl Abort) -> Reader {
+    let started = start_tells(rt, Lister, &SECTIONS, b"");
+    started.expect(rt, "the run of case A starts")
+}
+
 // The parts by themselves: a start that is refused, and a group whose image is whole.
 fn parts_tell<P: Program>(
     rt: &impl Abort,
@@ -83,16 +89,13 @@ fn parts_tell<P: Program>(
 fn tells_case_a(rt: HostRuntime) {
     let image = image();
     let listed = b"group 1 entries 3\nentire 0 20\nseparator 20 0\nskip 20 44\n";
-    let started = start_tells(&rt, Lister, &SECTIONS, b"");
-    assert!(rt; started.is_some());
-    if let Some(reader) = started {
-        let then = group_tells(&rt, Lister, reader, Some(&image), &SECTIONS, listed);
-        assert!(rt; then.is_some());
-        let then = group_tells(&rt, Explainer, reader, Some(&image), &SECTIONS, b"");
-        assert!(rt; then.is_some());
-    }
+    let reader = begun(&rt);
+    let then = group_tells(&rt, Lister, reader, Some(&image), &SECTIONS, listed);
+    assert!(rt; then.is_some());
+    let then = group_tells(&rt, Explainer, reader, Some(&image), &SECTIONS, b"");
+    assert!(rt; then.is_some());
     let explained = start_tells(&rt, Explainer, &SECTIONS, b"");
-    assert_eq!(rt; explained, started);
+    assert_eq!(rt; explained, Some(reader));
 }
 
 // "A refusal prints `refused R at K` and stops"; the explainer gives its reason, and counts groups from 1.
@@ -106,43 +109,34 @@ fn tells_refusals(rt: HostRuntime) {
         b"refused 3 at 0\ngroup 1: the first number is out of range\nfound 0, allowed 1 to 65535\n";
     let then = start_tells(&rt, Explainer, &none, why);
     assert!(rt; then.is_none());
-    if let Some(reader) = start_tells(&rt, Lister, &SECTIONS, b"") {
-        let mut another = SECTIONS;
-        another[13] = 2;
-        let image = image();
-        let then = group_tells(
-            &rt,
-            Lister,
-            reader,
-            Some(&image),
-            &another,
-            b"refused 5 at 0\n",
-        );
-        assert!(rt; then.is_none());
-        let why = b"refused 5 at 0\ngroup 1: the number is not the next\nfound 2, allowed 1 to 1\n";
-        let then = group_tells(&rt, Explainer, reader, Some(&image), &another, why);
-        assert!(rt; then.is_none());
-    }
+    let reader = begun(&rt);
+    let mut another = SECTIONS;
+    another[13] = 2;
+    let image = image();
+    let refused = b"refused 5 at 0\n";
+    let then = group_tells(&rt, Lister, reader, Some(&image), &another, refused);
+    assert!(rt; then.is_none());
+    let why = b"refused 5 at 0\ngroup 1: the number is not the next\nfound 2, allowed 1 to 1\n";
+    let then = group_tells(&rt, Explainer, reader, Some(&image), &another, why);
+    assert!(rt; then.is_none());
 }
 
 // "short input .. print `bad run file` at that moment and stop"
 #[test]
 fn tells_a_short_image(rt: HostRuntime) {
-    if let Some(reader) = start_tells(&rt, Lister, &SECTIONS, b"") {
-        let then = group_tells(&rt, Lister, reader, None, &SECTIONS, b"bad run file\n");
-        assert!(rt; then.is_none());
-        let then = group_tells(&rt, Explainer, reader, None, &SECTIONS, b"bad run file\n");
-        assert!(rt; then.is_none());
-    }
+    let reader = begun(&rt);
+    let then = group_tells(&rt, Lister, reader, None, &SECTIONS, b"bad run file\n");
+    assert!(rt; then.is_none());
+    let then = group_tells(&rt, Explainer, reader, None, &SECTIONS, b"bad run file\n");
+    assert!(rt; then.is_none());
 }
 
 #[test]
 fn tells_the_parts(rt: HostRuntime) {
-    if let Some(reader) = start_tells(&rt, Lister, &SECTIONS, b"") {
-        let listed = b"group 1 entries 3\nentire 0 20\nseparator 20 0\nskip 20 44\n";
-        parts_tell(&rt, &Lister, reader, b"refused 3 at 0\n", listed);
-        let why =
-            b"refused 3 at 0\ngroup 1: the first number is out of range\nfound 0, allowed 1 to 65535\n";
-        parts_tell(&rt, &Explainer, reader, why, b"");
-    }
+    let reader = begun(&rt);
+    let listed = b"group 1 entries 3\nentire 0 20\nseparator 20 0\nskip 20 44\n";
+    parts_tell(&rt, &Lister, reader, b"refused 3 at 0\n", listed);
+    let why =
+        b"refused 3 at 0\ngroup 1: the first number is out of range\nfound 0, allowed 1 to 65535\n";
+    parts_tell(&rt, &Explainer, reader, why, b"");
 }
